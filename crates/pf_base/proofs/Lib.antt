@@ -1,0 +1,4 @@
+pub mod FileListLemmas
+pub mod LineEnds
+pub mod LogicalLemmas
+pub mod Parts

@@ -1,0 +1,31 @@
+-- Why a call answers a fault: only where the count of faults of the object that was handed in rose in that call.
+use Rattle.std.specs.Prelude.{◌≡◌, ◌-◌, ℕ, ◌+◌, ◌^◌, ◌≤◌, min, Result, OnOk, OnErr, IsErrOf}
+use Rattle.pf_base.specs.declared.fault.OuterFault.{OuterFault}
+use Rattle.pf_base.specs.declared.fault.OuterFault.TheVariants.{Failed, NoMemory}
+use Rattle.pf_base.specs.declared.reading.ReadFault.{ReadFault}
+use Rattle.pf_base.specs.declared.reading.ReadFault.TheVariants.{Failed as ReadFailed, TooLarge, NoMemory as ReadNoMemory}
+
+-- a count of faults rose; one that stands at the greatest u64 counts as risen
+abbrev pub Rose : ℕ → ℕ → Type 0
+Rose before now = min (before + 1) (2 ^ 64 - 1) ≤ now
+
+-- the cause of a fault that is the only one: an answer without it passed no fault over
+pub record HasCause {T E : Type 0} (before now : ℕ) (result : Result T E) : Type 0 where
+  pub later : before ≤ now
+  pub failed : OnErr result (Rose before now)
+  pub kept : OnOk result (now ≡ before)
+
+-- the cause of a fault beside want of memory, which raises no count
+pub record HasOuterCause {T : Type 0} (before now : ℕ) (result : Result T OuterFault) : Type 0 where
+  pub later : before ≤ now
+  pub failed : IsErrOf result Failed → Rose before now
+  pub memory : IsErrOf result NoMemory → now ≡ before
+  pub kept : OnOk result (now ≡ before)
+
+-- the cause of a fault of reading a whole file
+pub record HasReadCause {T : Type 0} (before now : ℕ) (result : Result T ReadFault) : Type 0 where
+  pub later : before ≤ now
+  pub failed : IsErrOf result ReadFailed → Rose before now
+  pub large : IsErrOf result TooLarge → now ≡ before
+  pub memory : IsErrOf result ReadNoMemory → now ≡ before
+  pub kept : OnOk result (now ≡ before)

@@ -1,0 +1,40 @@
+-- Files as a list of names with their bytes: what is read of them and what a replacement leaves.
+use Rattle.std.specs.Prelude.{◌≡◌, ◌<◌, ◌≤◌, ℕ, List, [], ◌∷◌, ◌++◌, Option, None, Some, Result, Ok, Err, OnErr, OnOk, nat_lt, length, take, drop, unwrap_or, ◌⊎◌, if◌then◌else◌}
+use Rattle.std.specs.Option.{option_map}
+use Rattle.std.specs.List.{find}
+use Rattle.std.specs.Str.{bytes_eq}
+use Rattle.pf_base.specs.declared.pair.Pair.{Pair}
+use Rattle.pf_base.specs.declared.reading.ReadFault.{ReadFault}
+use Rattle.pf_base.specs.declared.reading.ReadFault.TheVariants.{TooLarge}
+
+-- the bytes of the file of this name, if there is one
+abbrev pub file_of : List Pair → List ℕ → Option (List ℕ)
+file_of files name = option_map (λ pair. pair.value) (find (λ pair. bytes_eq pair.key name) files)
+
+-- the files with these bytes under this name, in the place of those that it had
+abbrev pub with_file : List Pair → List ℕ → List ℕ → List Pair
+with_file [] name bytes = record { key = name; value = bytes } ∷ []
+with_file (pair ∷ pairs) name bytes =
+    if bytes_eq pair.key name then record { key = name; value = bytes } ∷ pairs else pair ∷ with_file pairs name bytes
+
+-- n bytes of the file from a place on: at least one where there is one and the buffer has room
+pub record ReadsFrom (bytes : List ℕ) (at n : ℕ) (buf : List ℕ) : Type 0 where
+  pub within : n ≤ length (drop at bytes)
+  pub same : take n buf ≡ take n (drop at bytes)
+  pub some : n ≡ 0 → 0 < length buf → drop at bytes ≡ []
+
+-- the next n bytes of the file were added to those before them; none at the end alone
+pub record AddsPart (file old new : List ℕ) (n : ℕ) : Type 0 where
+  pub new_is : new ≡ old ++ take n (drop (length old) file)
+  pub within : n ≤ length (drop (length old) file)
+  pub some : n ≡ 0 → drop (length old) file ≡ []
+
+-- a refused replacement leaves the files as before, or as after it
+pub record Replaces {T E : Type 0} (old new : Option (List Pair)) (result : Result T E) (name bytes : List ℕ) : Type 0 where
+  pub done : OnOk result (new ≡ option_map (λ files. with_file files name bytes) old)
+  pub refused : OnErr result ((new ≡ old) ⊎ (new ≡ option_map (λ files. with_file files name bytes) old))
+
+-- a whole file as it is read: nothing where it is absent, and none above 64 MiB
+abbrev pub whole_file : Option (List ℕ) → Result (Option (List ℕ)) ReadFault
+whole_file None = Ok None
+whole_file (Some bytes) = if nat_lt 67108864 (length bytes) then Err TooLarge else Ok (Some bytes)

@@ -1,0 +1,11 @@
+pub mod Causes
+pub mod FileList
+pub mod Gathering
+pub mod Lines
+pub mod Logical
+pub mod Memory
+pub mod MemoryForms
+pub mod Names
+pub mod Space
+pub mod Told
+pub mod Unless

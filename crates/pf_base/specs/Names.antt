@@ -1,0 +1,24 @@
+-- Names of hosts, and when two are the same.
+use Rattle.std.specs.Prelude.{ℕ, ◌==◌, ◌&&◌, ◌||◌, Bool, not, nat_le, nat_lt, List, length, map}
+use Rattle.std.specs.List.{list_all, slice_split}
+use Rattle.std.specs.Char.{is_ascii_alphanumeric, to_ascii_lowercase}
+use Rattle.std.specs.Str.{bytes_eq}
+
+-- RFC 1123, 2.1, with the underscore that Postfix takes too
+abbrev pub is_label_byte : ℕ → Bool
+is_label_byte b = is_ascii_alphanumeric b || b == 45 || b == 95
+
+-- RFC 1035, 2.3.4: a label has 1 to 63 bytes
+abbrev pub is_label : List ℕ → Bool
+is_label label = nat_lt 0 (length label) && nat_le (length label) 63 && list_all is_label_byte label
+
+-- a host name: labels parted by single dots
+abbrev pub is_host_name : List ℕ → Bool
+is_host_name name = list_all is_label (slice_split (λ b. b == 46) name)
+
+-- RFC 1035, 2.3.3: letters count as the same in either case
+abbrev pub folded : List ℕ → List ℕ
+folded name = map to_ascii_lowercase name
+
+abbrev pub same_name : List ℕ → List ℕ → Bool
+same_name a b = bytes_eq (folded a) (folded b)

@@ -1,0 +1,29 @@
+//! What every layer of postgate stands on: lists that contracts see as lists, the traits to the outside with
+//! their forms in memory, faults and their causes, refusals, and the lines of a text.
+#![tactic(auto)]
+
+mod bytes;
+mod fault;
+mod lines;
+mod list;
+mod logical;
+mod memory;
+mod names;
+mod outside;
+mod pair;
+mod reading;
+mod refused;
+mod space;
+
+pub use bytes::Bytes;
+pub use fault::{Failed, NoMemory, OuterFault};
+pub use lines::{first_line, without_return};
+pub use list::List;
+pub use logical::{Logical, TextFault, logical_lines};
+pub use memory::{MemFiles, MemSink, MemSource};
+pub use names::{is_host_name, same_name};
+pub use outside::{Files, Sink, Source};
+pub use pair::Pair;
+pub use reading::{FILE_LIMIT, ReadFault, read_all};
+pub use refused::{Cause, ConfFault, Refused};
+pub use space::{is_space, trimmed, without_leading_space};

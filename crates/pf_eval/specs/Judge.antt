@@ -1,0 +1,49 @@
+-- What a list of restrictions says of a client and a recipient's domain (SMTPD_ACCESS_README).
+use Rattle.std.specs.Prelude.{ℕ, ◌+◌, Bool, List, [], ◌∷◌, if◌then◌else◌}
+use Rattle.std.specs.List.{list_any}
+use Rattle.pf_base.specs.Names.{same_name}
+use Rattle.pf_eval.specs.Nets.{Net, net_has}
+use Rattle.pf_eval.specs.declared.policy.PlainPolicy.{PlainPolicy}
+use Rattle.pf_eval.specs.declared.policy.PlainItem.{PlainItem}
+use Rattle.pf_eval.specs.declared.policy.PlainItem.TheVariants.{PermitMynetworks, RejectUnauthDestination}
+use Rattle.pf_eval.specs.declared.policy.PlainEnd.{PlainEnd}
+use Rattle.pf_eval.specs.declared.policy.PlainEnd.TheVariants.{Accept, Deny}
+use Rattle.pf_eval.specs.declared.judge.Verdict.{Verdict}
+use Rattle.pf_eval.specs.declared.judge.Verdict.TheVariants.{Permits, Denies, GoesOn}
+
+-- mynetworks: the client's address is in one of the networks
+abbrev pub is_own_client : PlainPolicy → ℕ → Bool
+is_own_client policy client = list_any (λ net. net_has net client) policy.networks
+
+-- mydestination: the domain is one of the names
+abbrev pub is_destination : PlainPolicy → List ℕ → Bool
+is_destination policy domain = list_any (λ name. same_name name domain) policy.destinations
+
+-- permit_mynetworks: permits where the client is in mynetworks
+abbrev pub permit_mynetworks : PlainPolicy → ℕ → Verdict
+permit_mynetworks policy client = if is_own_client policy client then Permits else GoesOn
+
+-- reject_unauth_destination: denies where the domain is no destination
+abbrev pub reject_unauth_destination : PlainPolicy → List ℕ → Verdict
+reject_unauth_destination policy domain = if is_destination policy domain then GoesOn else Denies
+
+-- what an item says
+abbrev pub verdict : PlainPolicy → ℕ → List ℕ → PlainItem → Verdict
+verdict policy client domain PermitMynetworks = permit_mynetworks policy client
+verdict policy client domain RejectUnauthDestination = reject_unauth_destination policy domain
+
+-- a permit and a denial end the list, and the rest of it counts where the item goes on
+abbrev pub or_on : Verdict → ℕ → PlainEnd → PlainEnd
+or_on Permits place on = Accept
+or_on Denies place on = Deny place
+or_on GoesOn place on = on
+
+-- how a list ends whose first item has this place; where it has no item left, it lets through
+abbrev pub end_from : PlainPolicy → ℕ → List ℕ → ℕ → List PlainItem → PlainEnd
+end_from policy client domain place [] = Accept
+end_from policy client domain place (item ∷ items) =
+    or_on (verdict policy client domain item) place (end_from policy client domain (place + 1) items)
+
+-- how the relay list ends
+unfoldable pub end_of : PlainPolicy → ℕ → List ℕ → PlainEnd
+end_of policy client domain = end_from policy client domain 1 policy.relay

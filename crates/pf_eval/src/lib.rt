@@ -1,0 +1,10 @@
+//! Judging: what the lists of restrictions say of a client and a recipient (SMTPD_ACCESS_README).
+#![tactic(auto)]
+
+mod judge;
+mod net;
+mod policy;
+
+pub use judge::judge_plain;
+pub use net::PlainNet;
+pub use policy::{PlainEnd, PlainItem, PlainPolicy};

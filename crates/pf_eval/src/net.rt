@@ -1,0 +1,45 @@
+//! Networks of IPv4 addresses.
+ghost use Rattle.std.specs.Prelude.{◌≡◌, ◌≤◌, ◌↔◌, IsSome, IfSome};
+ghost use Rattle.pf_eval.specs.Nets.{net_has};
+
+use std::marker::Model;
+
+/// The addresses whose first bits are those of one address. The prefix says how many bits, at most 32.
+#[derive(Debug, Drop)]
+pub struct PlainNet {
+    addr: u32,
+    prefix: u8,
+}
+
+impl Model for PlainNet {
+    ghost use Rattle.std.specs.Prelude.{◌≤◌};
+    ghost use Rattle.pf_eval.specs.Nets.{Net};
+
+    ghost Value = { Net };
+
+    ghost view = { λ net. record { addr = net.addr; prefix = net.prefix } };
+
+    ghost invariant = { λ net. net.prefix ≤ 32 };
+}
+
+impl PlainNet {
+    /// The network of an address with a prefix; None exactly where the prefix is above 32. Bits behind it don't count.
+    pub fn new(addr: u32, prefix: u8) -> Option<PlainNet>
+        ensures some { IsSome result ↔ (prefix ≤ 32) }
+        ensures net { IfSome result (λ net. net ≡ record { addr = addr; prefix = prefix }) }
+    {
+        if prefix <= 32 {
+            Some(PlainNet { addr, prefix })
+        } else {
+            None
+        }
+    }
+
+    /// Whether an address is in the network.
+    pub fn has(&self, client: u32) -> bool
+        ensures { result ≡ net_has self.now client }
+    {
+        let behind = 32 - self.prefix;
+        u64::from(client) >> behind == u64::from(self.addr) >> behind
+    }
+}
