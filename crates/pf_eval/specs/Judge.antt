@@ -28,9 +28,9 @@ abbrev pub reject_unauth_destination : PlainPolicy → List ℕ → Verdict
 reject_unauth_destination policy domain = if is_destination policy domain then GoesOn else Denies
 
 -- what an item says
-abbrev pub verdict : PlainPolicy → ℕ → List ℕ → PlainItem → Verdict
-verdict policy client domain PermitMynetworks = permit_mynetworks policy client
-verdict policy client domain RejectUnauthDestination = reject_unauth_destination policy domain
+abbrev pub item_verdict : PlainPolicy → ℕ → List ℕ → PlainItem → Verdict
+item_verdict policy client domain PermitMynetworks = permit_mynetworks policy client
+item_verdict policy client domain RejectUnauthDestination = reject_unauth_destination policy domain
 
 -- a permit and a denial end the list, and the rest of it counts where the item goes on
 abbrev pub or_on : Verdict → ℕ → PlainEnd → PlainEnd
@@ -42,7 +42,7 @@ or_on GoesOn place on = on
 abbrev pub end_from : PlainPolicy → ℕ → List ℕ → ℕ → List PlainItem → PlainEnd
 end_from policy client domain place [] = Accept
 end_from policy client domain place (item ∷ items) =
-    or_on (verdict policy client domain item) place (end_from policy client domain (place + 1) items)
+    or_on (item_verdict policy client domain item) place (end_from policy client domain (place + 1) items)
 
 -- how the relay list ends
 unfoldable pub end_of : PlainPolicy → ℕ → List ℕ → PlainEnd

@@ -50,8 +50,8 @@ fn reject_unauth_destination(policy: &PlainPolicy, domain: &[u8]) -> Verdict
     }
 }
 
-fn verdict(policy: &PlainPolicy, client: u32, domain: &[u8], item: PlainItem) -> Verdict
-    ensures { result ≡ judge.verdict policy.now client domain.now item }
+fn item_verdict(policy: &PlainPolicy, client: u32, domain: &[u8], item: PlainItem) -> Verdict
+    ensures { result ≡ judge.item_verdict policy.now client domain.now item }
 {
     match item {
         PlainItem::PermitMynetworks => permit_mynetworks(policy, client),
@@ -66,7 +66,7 @@ pub fn judge_plain(policy: &PlainPolicy, client: u32, domain: &[u8]) -> PlainEnd
 {
     let mut place = 1;
     for item in policy.relay.as_slice() {
-        match verdict(policy, client, domain, *item) {
+        match item_verdict(policy, client, domain, *item) {
             Verdict::Permits => return PlainEnd::Accept,
             Verdict::Denies => return PlainEnd::Deny { place },
             Verdict::GoesOn => place += 1,

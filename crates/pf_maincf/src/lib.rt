@@ -1,13 +1,8 @@
-// A library with one function.
+//! main.cf: its settings in order (postconf(5)).
 #![tactic(auto)]
 
-ghost use Rattle.std.specs.Prelude.{◌≡◌};
-ghost use Rattle.pf_maincf.specs.Echo.{echo_of};
+mod maincf;
+mod setting;
 
-// The `ensures` clause is the contract: what `echo` returns is `echo_of` of its argument, a definition
-// in `specs/Echo.antt`, which a caller's clause can cite too.
-pub fn echo(x: usize) -> usize
-    ensures { result ≡ echo_of x }
-{
-    x
-}
+pub use maincf::MainCf;
+pub use setting::Setting;

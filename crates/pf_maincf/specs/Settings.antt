@@ -1,0 +1,63 @@
+-- The settings of a main.cf (postconf(5)).
+use Rattle.std.specs.Prelude.{ℕ, ◌+◌, ◌==◌, ◌++◌, List, [], ◌∷◌, Option, None, Some, Result, Ok, Err, reverse, take, drop}
+use Rattle.std.specs.List.{find, position}
+use Rattle.std.specs.Option.{option_map}
+use Rattle.std.specs.Str.{bytes_eq}
+use Rattle.pf_base.specs.Logical.{logical_lines_of}
+use Rattle.pf_base.specs.Space.{trimmed}
+use Rattle.pf_base.specs.declared.logical.Logical.{Logical}
+use Rattle.pf_base.specs.declared.logical.TextFault.{TextFault}
+use Rattle.pf_base.specs.declared.logical.TextFault.TheVariants.{Continuation, NoMemory as TextNoMemory}
+use Rattle.pf_base.specs.declared.refused.Cause.{Cause}
+use Rattle.pf_base.specs.declared.refused.Cause.TheVariants.{C1, C2}
+use Rattle.pf_base.specs.declared.refused.ConfFault.{ConfFault}
+use Rattle.pf_base.specs.declared.refused.ConfFault.TheVariants.{Refused, NoMemory}
+use Rattle.pf_maincf.specs.declared.setting.Setting.{Setting}
+
+-- a file's name and its settings in order
+pub record Conf : Type 0 where
+  pub file : List ℕ
+  pub settings : List Setting
+
+-- a logical line is parted at its first equals sign, and space round the name and the value is dropped
+abbrev pub setting_of : Logical → Option Setting
+setting_of logical =
+    option_map (λ i. record { line = logical.line; name = trimmed (take i logical.text); value = trimmed (drop (i + 1) logical.text) })
+    (position (λ b. b == 61) logical.text)
+
+-- a refusal that names nothing
+abbrev pub refused : List ℕ → ℕ → Cause → ConfFault
+refused file line cause = Refused (record { file = file; line = line; cause = cause; name = [] })
+
+-- settings before others
+abbrev pub before : List Setting → Result (List Setting) ConfFault → Result (List Setting) ConfFault
+before front (Ok settings) = Ok (front ++ settings)
+before front (Err fault) = Err fault
+
+-- the setting of a line before those behind it, or the refusal of a line without an equals sign
+abbrev pub or_refused : List ℕ → Logical → Option Setting → Result (List Setting) ConfFault → Result (List Setting) ConfFault
+or_refused file logical None behind = Err (refused file logical.line C2)
+or_refused file logical (Some setting) behind = before (setting ∷ []) behind
+
+-- the settings of logical lines in order
+abbrev pub settings_of : List ℕ → List Logical → Result (List Setting) ConfFault
+settings_of file [] = Ok []
+settings_of file (logical ∷ lines) = or_refused file logical (setting_of logical) (settings_of file lines)
+
+-- the settings of a text, or the first of its lines that is refused
+abbrev pub settings_of_lines : List ℕ → Result (List Logical) TextFault → Result (List Setting) ConfFault
+settings_of_lines file (Ok lines) = settings_of file lines
+settings_of_lines file (Err (Continuation line)) = Err (refused file line C1)
+settings_of_lines file (Err TextNoMemory) = Err NoMemory
+
+abbrev pub conf_with : List ℕ → Result (List Setting) ConfFault → Result Conf ConfFault
+conf_with file (Ok settings) = Ok (record { file = file; settings = settings })
+conf_with file (Err fault) = Err fault
+
+-- a main.cf of this name and text
+unfoldable pub conf_of : List ℕ → List ℕ → Result Conf ConfFault
+conf_of file text = conf_with file (settings_of_lines file (logical_lines_of text))
+
+-- the last setting of a name
+abbrev pub last_setting : List Setting → List ℕ → Option Setting
+last_setting settings name = find (λ setting. bytes_eq setting.name name) (reverse settings)

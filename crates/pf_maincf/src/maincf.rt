@@ -1,0 +1,111 @@
+//! A main.cf that was read.
+ghost use Rattle.std.specs.Prelude.{◌≡◌, ◌≢◌};
+ghost use Rattle.std.specs.Option.{option_copied};
+ghost use Rattle.pf_base.specs.Unless.{Unless};
+ghost use Rattle.pf_maincf.specs.Settings as settings;
+ghost use Rattle.pf_maincf.specs.Settings.{conf_of, last_setting};
+
+use crate::setting::{Setting, setting_of};
+use pf_base::{
+    Bytes, Cause, ConfFault, List, Logical, NoMemory, Refused, TextFault, logical_lines,
+};
+use std::alloc::Global;
+use std::marker::Model;
+
+/// The name of a file and its settings in order.
+#[derive(Debug, Drop)]
+pub struct MainCf {
+    file: Bytes,
+    settings: List<Setting>,
+}
+
+impl Model for MainCf {
+    ghost use Rattle.pf_maincf.specs.Settings.{Conf};
+
+    ghost Value = { Conf };
+
+    ghost view = { λ conf. record { file = conf.file; settings = conf.settings } };
+}
+
+// A refusal that names nothing.
+fn refused(alloc: Global, file: &[u8], line: u64, cause: Cause) -> ConfFault
+    ensures { result ≢ ConfFault.NoMemory → result ≡ settings.refused file.now line cause }
+{
+    match Bytes::from_slice(alloc, file) {
+        Ok(file) => ConfFault::Refused(Refused {
+            file,
+            line,
+            cause,
+            name: Bytes::new(alloc),
+        }),
+        Err(NoMemory) => ConfFault::NoMemory,
+    }
+}
+
+// The settings of logical lines in order.
+fn settings_of(alloc: Global, file: &[u8], lines: &[Logical]) -> Result<List<Setting>, ConfFault>
+    ensures { Unless result ConfFault.NoMemory (λ r. r ≡ settings.settings_of file.now lines.now) }
+{
+    let mut settings = List::new(alloc);
+    for logical in lines {
+        match setting_of(alloc, logical) {
+            Ok(Some(setting)) => {
+                let Ok(()) = settings.push(setting) else {
+                    return Err(ConfFault::NoMemory);
+                };
+            }
+            Ok(None) => return Err(refused(alloc, file, logical.line, Cause::C2)),
+            Err(NoMemory) => return Err(ConfFault::NoMemory),
+        }
+    }
+    Ok(settings)
+}
+
+impl MainCf {
+    /// The settings of a main.cf with this name and this text. Its first line that is not ignored and starts with space
+    /// is refused as C1, else its first logical line without an equals sign as C2.
+    pub fn read(alloc: Global, file: &[u8], text: &[u8]) -> Result<MainCf, ConfFault>
+        ensures { Unless result ConfFault.NoMemory (λ r. r ≡ conf_of file.now text.now) }
+    {
+        let lines = match logical_lines(alloc, text) {
+            Ok(lines) => lines,
+            Err(TextFault::Continuation { line }) => return Err(refused(
+                alloc,
+                file,
+                line,
+                Cause::C1,
+            )),
+            Err(TextFault::NoMemory) => return Err(ConfFault::NoMemory),
+        };
+        let settings = settings_of(alloc, file, lines.as_slice())?;
+        match Bytes::from_slice(alloc, file) {
+            Ok(file) => Ok(MainCf { file, settings }),
+            Err(NoMemory) => Err(ConfFault::NoMemory),
+        }
+    }
+
+    /// The name of the file, as it was handed in.
+    pub fn file(&self) -> &Bytes
+        ensures { result.now ≡ self.now.file }
+    {
+        &self.file
+    }
+
+    /// All settings in the order of their lines.
+    pub fn settings(&self) -> &List<Setting>
+        ensures { result.now ≡ self.now.settings }
+    {
+        &self.settings
+    }
+
+    /// The last setting of a name, which is the one that counts; None where the name is not set.
+    pub fn last(&self, name: &[u8]) -> Option<&Setting>
+        ensures { option_copied result ≡ last_setting self.now.settings name.now }
+    {
+        self.settings
+            .as_slice()
+            .iter()
+            .rev()
+            .find(|setting| setting.name.as_slice() == name)
+    }
+}
