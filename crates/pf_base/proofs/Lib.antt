@@ -2,3 +2,4 @@ pub mod FileListLemmas
 pub mod LineEnds
 pub mod LogicalLemmas
 pub mod Parts
+pub mod ToldLemmas

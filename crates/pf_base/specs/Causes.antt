@@ -5,9 +5,13 @@ use Rattle.pf_base.specs.declared.fault.OuterFault.TheVariants.{Failed, NoMemory
 use Rattle.pf_base.specs.declared.reading.ReadFault.{ReadFault}
 use Rattle.pf_base.specs.declared.reading.ReadFault.TheVariants.{Failed as ReadFailed, TooLarge, NoMemory as ReadNoMemory}
 
+-- a count goes up by one, and stays at the greatest u64
+abbrev pub counted : ℕ → ℕ
+counted n = min (n + 1) (2 ^ 64 - 1)
+
 -- a count of faults rose; one that stands at the greatest u64 counts as risen
 abbrev pub Rose : ℕ → ℕ → Type 0
-Rose before now = min (before + 1) (2 ^ 64 - 1) ≤ now
+Rose before now = counted before ≤ now
 
 -- the cause of a fault that is the only one: an answer without it passed no fault over
 pub record HasCause {T E : Type 0} (before now : ℕ) (result : Result T E) : Type 0 where

@@ -1,12 +1,8 @@
 -- What the forms in memory do: their calls are counted, and those whose numbers were listed fail.
 use Rattle.std.specs.Prelude.{◌≡◌, ◌≤◌, ℕ, ◌+◌, ◌-◌, ◌^◌, ◌==◌, Bool, true, false, List, [], ◌∷◌, max, min, length, slice_index}
 use Rattle.std.specs.List.{list_any}
-use Rattle.pf_base.specs.Causes.{Rose}
+use Rattle.pf_base.specs.Causes.{Rose, counted}
 use Rattle.pf_base.specs.declared.memory.Schedule.{Schedule}
-
--- a count goes up by one, and stays at the greatest u64
-abbrev pub counted : ℕ → ℕ
-counted n = min (n + 1) (2 ^ 64 - 1)
 
 -- the next call is one of those that fail; the first call has the number 1
 abbrev pub fails_next : Schedule → Bool

@@ -1,0 +1,12 @@
+use Rattle.std.proofs.Common.{sym, ap, ◌∙◌}
+use Rattle.pf_smtp.proofs.StepLemmas.{step_kept}
+use Rattle.pf_smtp.proofs.standing.Standing.take_line.Goals as goal
+
+pub returns : goal.returns
+returns c =
+    let given = rw (c.as_slice.ensures, c.in_ok-keep.ensures, step_kept) at c.in_ok-answer.ensures in
+    record {
+      out = rw (c.as_slice-2.ensures, given.replies) at c.in_ok-add.ensures.out;
+      log = rw given.entries at c.in_ok-add.ensures.log;
+      standing = rw (given.state, c.clear.ensures);
+    }

@@ -1,0 +1,29 @@
+-- The parts of a command line (RFC 5321, 2.4 and 4.1.1).
+use Rattle.std.specs.Prelude.{ℕ, ◌==◌, List, Option, Some, None, length, take, drop, codes, if◌then◌else◌}
+use Rattle.std.specs.List.{before_first, after_first}
+use Rattle.pf_base.specs.Names.{same_name}
+use Rattle.pf_base.specs.Space.{is_space, trimmed, without_leading_space}
+use Rattle.pf_smtp.specs.declared.command.Verb.{Verb}
+use Rattle.pf_smtp.specs.declared.command.Verb.TheVariants.{Empty, Helo, Mail, Rcpt, Quit, Other}
+
+-- verbs are read in any case
+abbrev pub verb_named : List ℕ → Verb
+verb_named word =
+    if same_name word (codes "HELO") then Helo
+    else (if same_name word (codes "MAIL") then Mail
+    else (if same_name word (codes "RCPT") then Rcpt
+    else (if same_name word (codes "QUIT") then Quit
+    else Other)))
+
+-- the verb of a line without space at its ends: what stands before its first space
+unfoldable pub verb_of : List ℕ → Verb
+verb_of line = if length line == 0 then Empty else verb_named (before_first is_space line)
+
+-- the argument of such a line: the rest, without space at its ends
+abbrev pub argument_of : List ℕ → List ℕ
+argument_of line = trimmed (after_first is_space line)
+
+-- what stands behind a keyword, which is read in any case, and space
+unfoldable pub after_keyword : List ℕ → List ℕ → Option (List ℕ)
+after_keyword keyword argument =
+    if same_name (take (length keyword) argument) keyword then Some (without_leading_space (drop (length keyword) argument)) else None

@@ -1,0 +1,30 @@
+-- What a line and a piece of the input add to the texts of replies and log lines.
+use Rattle.std.specs.Prelude.{◌≡◌, ℕ, ◌++◌, false, List, []}
+use Rattle.pf_smtp.specs.Session.{given, part_behind, replies_text, log_text}
+use Rattle.pf_smtp.specs.Step.{Step, step}
+use Rattle.pf_smtp.specs.declared.standing.Gathered.{Gathered}
+use Rattle.pf_smtp.specs.declared.standing.Standing.{Standing}
+
+-- the step of the line of which a session has a part and that ends with these bytes
+abbrev pub line_given : Standing → List ℕ → Step
+line_given s line = step s.setup s.state (s.part ++ line)
+
+pub record AnswersLine (before now : Gathered) (old new : Standing) (line : List ℕ) : Type 0 where
+  pub out : now.out ≡ before.out ++ replies_text old.setup (line_given old line)
+  pub log : now.log ≡ before.log ++ log_text (line_given old line)
+  pub standing : new ≡ record { setup = old.setup; state = (line_given old line).next; part = [] }
+
+pub record AnswersPiece (before now : Gathered) (old new : Standing) (piece : List ℕ) : Type 0 where
+  pub out : now.out ≡ before.out ++ replies_text old.setup (given old piece)
+  pub log : now.log ≡ before.log ++ log_text (given old piece)
+  pub setup : new.setup ≡ old.setup
+  pub state : new.state ≡ (given old piece).next
+  pub part : new.state.over ≡ false → new.part ≡ part_behind old piece
+
+-- what a piece gives is what was gathered, and what the rest of the piece gives from here on
+pub record ComesDownTo (before now : Gathered) (old new : Standing) (piece left : List ℕ) : Type 0 where
+  pub out : before.out ++ replies_text old.setup (given old piece) ≡ now.out ++ replies_text new.setup (given new left)
+  pub log : before.log ++ log_text (given old piece) ≡ now.log ++ log_text (given new left)
+  pub setup : new.setup ≡ old.setup
+  pub state : (given old piece).next ≡ (given new left).next
+  pub part : part_behind old piece ≡ part_behind new left

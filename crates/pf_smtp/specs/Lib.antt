@@ -1,0 +1,7 @@
+pub mod Command
+pub mod Gathering
+pub mod Gives
+pub mod Path
+pub mod Session
+pub mod Step
+pub mod Text

@@ -1,0 +1,29 @@
+-- The paths of this profile: <local@domain> (RFC 5321, 4.1.2).
+use Rattle.std.specs.Prelude.{ℕ, ◌-◌, ◌==◌, ◌&&◌, ◌||◌, Bool, nat_lt, List, Option, Some, None, length, take, drop, slice_index, if◌then◌else◌}
+use Rattle.std.specs.Char.{is_ascii_alphanumeric}
+use Rattle.std.specs.List.{list_all, before_first, after_first}
+use Rattle.std.specs.Option.{option_and_then}
+use Rattle.pf_base.specs.Names.{is_host_name}
+use Rattle.pf_smtp.specs.declared.path.Address.{Address}
+
+-- a letter, a digit, a dot, a hyphen, an underscore or a plus
+abbrev pub is_local_byte : ℕ → Bool
+is_local_byte b = is_ascii_alphanumeric b || b == 46 || b == 45 || b == 95 || b == 43
+
+abbrev pub is_local_part : List ℕ → Bool
+is_local_part text = nat_lt 0 (length text) && list_all is_local_byte text
+
+-- what stands between < and >
+abbrev pub bracketed : List ℕ → Option (List ℕ)
+bracketed text =
+    if slice_index text 0 == 60 && slice_index text (length text - 1) == 62 then Some (take (length text - 2) (drop 1 text)) else None
+
+-- a local part, an at sign and a host name
+abbrev pub address_of : List ℕ → Option Address
+address_of text =
+    if is_local_part (before_first (λ b. b == 64) text) && is_host_name (after_first (λ b. b == 64) text)
+    then Some (record { local = before_first (λ b. b == 64) text; domain = after_first (λ b. b == 64) text }) else None
+
+-- the address of a path
+unfoldable pub path_of : List ℕ → Option Address
+path_of text = option_and_then address_of (bracketed text)

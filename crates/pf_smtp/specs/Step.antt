@@ -1,0 +1,99 @@
+-- A step of a session: a state and a line give replies, record lines, log lines and the next state (RFC 5321, 4.1).
+use Rattle.std.specs.Prelude.{ℕ, ◌==◌, ◌++◌, Bool, true, false, nat_lt, List, [], ◌∷◌, Option, Some, None, is_some, is_none, length, codes, if◌then◌else◌}
+use Rattle.pf_base.specs.Causes.{counted}
+use Rattle.pf_base.specs.Lines.{without_return}
+use Rattle.pf_base.specs.Space.{trimmed}
+use Rattle.pf_eval.specs.Judge.{end_of}
+use Rattle.pf_eval.specs.declared.policy.PlainEnd.{PlainEnd}
+use Rattle.pf_eval.specs.declared.policy.PlainEnd.TheVariants.{Accept, Deny}
+use Rattle.pf_smtp.specs.Command.{verb_of, argument_of, after_keyword}
+use Rattle.pf_smtp.specs.Path.{path_of}
+use Rattle.pf_smtp.specs.declared.command.Verb.{Verb}
+use Rattle.pf_smtp.specs.declared.command.Verb.TheVariants as verb
+use Rattle.pf_smtp.specs.declared.entry.Entry.{Entry}
+use Rattle.pf_smtp.specs.declared.entry.Entry.TheVariants.{Accepted, Denied}
+use Rattle.pf_smtp.specs.declared.path.Address.{Address}
+use Rattle.pf_smtp.specs.declared.record_line.RecordLine.{RecordLine}
+use Rattle.pf_smtp.specs.declared.reply.LineReply.TheVariants.{TooLong, BadSyntax, NotRecognized}
+use Rattle.pf_smtp.specs.declared.reply.HeloReply.TheVariants.{NeedsName, Hello}
+use Rattle.pf_smtp.specs.declared.reply.MailReply.TheVariants as mail_reply
+use Rattle.pf_smtp.specs.declared.reply.RcptReply.TheVariants as rcpt_reply
+use Rattle.pf_smtp.specs.declared.reply.QuitReply.TheVariants as quit_reply
+use Rattle.pf_smtp.specs.declared.reply.Reply.{Reply}
+use Rattle.pf_smtp.specs.declared.reply.Reply.TheVariants.{Line, Helo, Mail, Rcpt, Quit}
+use Rattle.pf_smtp.specs.declared.state.Setup.{Setup}
+use Rattle.pf_smtp.specs.declared.state.State.{State}
+
+-- what a line gives
+pub record Step : Type 0 where
+  pub replies : List Reply
+  pub records : List RecordLine
+  pub entries : List Entry
+  pub next : State
+
+-- one reply, and the state behind it
+abbrev pub says : Reply → State → Step
+says reply state = record { replies = reply ∷ []; records = []; entries = []; next = state }
+
+-- one reply and one log line
+abbrev pub logs : Reply → Entry → State → Step
+logs reply entry state = record { replies = reply ∷ []; records = []; entries = entry ∷ []; next = state }
+
+-- HELO name, which ends a transaction
+abbrev pub helo : State → List ℕ → Step
+helo state argument =
+    if length argument == 0 then says (Helo NeedsName) state else says (Helo Hello) (record state { sender = None })
+
+-- MAIL FROM:path, which begins a transaction
+abbrev pub mail_address : State → Option Address → Step
+mail_address state None = says (Mail mail_reply.BadSender) state
+mail_address state (Some address) = says (Mail mail_reply.Taken) (record state { sender = Some address })
+
+abbrev pub mail_path : State → Option (List ℕ) → Step
+mail_path state None = says (Mail mail_reply.Syntax) state
+mail_path state (Some text) = mail_address state (path_of text)
+
+abbrev pub mail : State → List ℕ → Step
+mail state argument =
+    if is_some state.sender then says (Mail mail_reply.Nested) state else mail_path state (after_keyword (codes "FROM:") argument)
+
+-- RCPT TO:path, in a transaction: the recipient is accepted, or a restriction denies it
+abbrev pub judged : State → Address → PlainEnd → Step
+judged state address Accept = logs (Rcpt rcpt_reply.Taken) (Accepted state.line address) state
+judged state address (Deny place) = logs (Rcpt (rcpt_reply.RelayDenied address)) (Denied state.line address place) state
+
+abbrev pub rcpt_address : Setup → State → Option Address → Step
+rcpt_address setup state None = says (Rcpt rcpt_reply.BadRecipient) state
+rcpt_address setup state (Some address) = judged state address (end_of setup.policy setup.client address.domain)
+
+abbrev pub rcpt_path : Setup → State → Option (List ℕ) → Step
+rcpt_path setup state None = says (Rcpt rcpt_reply.Syntax) state
+rcpt_path setup state (Some text) = rcpt_address setup state (path_of text)
+
+abbrev pub rcpt : Setup → State → List ℕ → Step
+rcpt setup state argument =
+    if is_none state.sender then says (Rcpt rcpt_reply.NeedMail) state else rcpt_path setup state (after_keyword (codes "TO:") argument)
+
+-- QUIT, which ends the session
+abbrev pub quit : State → List ℕ → Step
+quit state argument =
+    if length argument == 0 then says (Quit quit_reply.Bye) (record state { over = true }) else says (Quit quit_reply.Syntax) state
+
+-- the row of a verb
+unfoldable pub command : Setup → State → Verb → List ℕ → Step
+command setup state verb.Empty argument = says (Line BadSyntax) state
+command setup state verb.Helo argument = helo state argument
+command setup state verb.Mail argument = mail state argument
+command setup state verb.Rcpt argument = rcpt setup state argument
+command setup state verb.Quit argument = quit state argument
+command setup state verb.Other argument = says (Line NotRecognized) state
+
+-- a line without its line end: one of more than 2,048 bytes is answered as it is, another without space at its ends
+abbrev pub line_step : Setup → State → List ℕ → Step
+line_step setup state line =
+    if nat_lt 2048 (length line) then says (Line TooLong) state
+    else command setup state (verb_of (trimmed line)) (argument_of (trimmed line))
+
+-- the next line as it stands before its line feed; lines are numbered from 1
+unfoldable pub step : Setup → State → List ℕ → Step
+step setup state raw = line_step setup (record state { line = counted state.line }) (without_return raw)

@@ -1,0 +1,89 @@
+-- The texts of replies and log lines.
+use Rattle.std.specs.Prelude.{ℕ, ◌++◌, List, [], ◌∷◌, codes}
+use Rattle.std.specs.Fmt.{decimal}
+use Rattle.std.specs.List.{flat_map}
+use Rattle.pf_smtp.specs.declared.path.Address.{Address}
+use Rattle.pf_smtp.specs.declared.entry.Entry.{Entry}
+use Rattle.pf_smtp.specs.declared.entry.Entry.TheVariants.{Accepted, Denied}
+use Rattle.pf_smtp.specs.declared.reply.LineReply.{LineReply}
+use Rattle.pf_smtp.specs.declared.reply.LineReply.TheVariants.{TooLong, BadSyntax, NotRecognized}
+use Rattle.pf_smtp.specs.declared.reply.HeloReply.{HeloReply}
+use Rattle.pf_smtp.specs.declared.reply.HeloReply.TheVariants.{NeedsName, Hello}
+use Rattle.pf_smtp.specs.declared.reply.MailReply.{MailReply}
+use Rattle.pf_smtp.specs.declared.reply.MailReply.TheVariants as mail
+use Rattle.pf_smtp.specs.declared.reply.RcptReply.{RcptReply}
+use Rattle.pf_smtp.specs.declared.reply.RcptReply.TheVariants as rcpt
+use Rattle.pf_smtp.specs.declared.reply.QuitReply.{QuitReply}
+use Rattle.pf_smtp.specs.declared.reply.QuitReply.TheVariants as quit
+use Rattle.pf_smtp.specs.declared.reply.Reply.{Reply}
+use Rattle.pf_smtp.specs.declared.reply.Reply.TheVariants.{Line, Helo, Mail, Rcpt, Quit}
+
+-- parts of a text in turn
+abbrev pub joined : List (List ℕ) → List ℕ
+joined parts = flat_map (λ part. part) parts
+
+-- RFC 5321, 2.3.8: a reply line ends by CR LF
+abbrev pub crlf : List ℕ
+crlf = 13 ∷ 10 ∷ []
+
+unfoldable pub line_text : LineReply → List ℕ
+line_text TooLong = codes "500 5.5.2 Error: line too long"
+line_text BadSyntax = codes "500 5.5.2 Error: bad syntax"
+line_text NotRecognized = codes "500 5.5.2 Error: command not recognized"
+
+unfoldable pub helo_text : List ℕ → HeloReply → List ℕ
+helo_text host NeedsName = codes "501 5.5.4 Syntax: HELO hostname"
+helo_text host Hello = joined (codes "250 " ∷ host ∷ [])
+
+unfoldable pub mail_text : MailReply → List ℕ
+mail_text mail.Nested = codes "503 5.5.1 Error: nested MAIL command"
+mail_text mail.Syntax = codes "501 5.5.4 Syntax: MAIL FROM:<address>"
+mail_text mail.BadSender = codes "501 5.1.7 Bad sender address syntax"
+mail_text mail.Taken = codes "250 2.1.0 Ok"
+
+-- reject_unauth_destination of postconf(5): the reply to a recipient that is denied
+unfoldable pub relay_denied_text : Address → List ℕ
+relay_denied_text address = joined (codes "554 5.7.1 <" ∷ address.local ∷ codes "@" ∷ address.domain ∷ codes ">: Relay access denied" ∷ [])
+
+unfoldable pub rcpt_text : RcptReply → List ℕ
+rcpt_text rcpt.NeedMail = codes "503 5.5.1 Error: need MAIL command"
+rcpt_text rcpt.Syntax = codes "501 5.5.4 Syntax: RCPT TO:<address>"
+rcpt_text rcpt.BadRecipient = codes "501 5.1.3 Bad recipient address syntax"
+rcpt_text (rcpt.RelayDenied address) = relay_denied_text address
+rcpt_text rcpt.Taken = codes "250 2.1.5 Ok"
+
+unfoldable pub quit_text : QuitReply → List ℕ
+quit_text quit.Syntax = codes "501 5.5.4 Syntax: QUIT"
+quit_text quit.Bye = codes "221 2.0.0 Bye"
+
+-- a reply without its line end
+abbrev pub reply_text : List ℕ → Reply → List ℕ
+reply_text host (Line reply) = line_text reply
+reply_text host (Helo reply) = helo_text host reply
+reply_text host (Mail reply) = mail_text reply
+reply_text host (Rcpt reply) = rcpt_text reply
+reply_text host (Quit reply) = quit_text reply
+
+-- a reply as it is sent
+unfoldable pub text_of : List ℕ → Reply → List ℕ
+text_of host reply = reply_text host reply ++ crlf
+
+-- what a server says first (RFC 5321, 4.2)
+unfoldable pub greeting_of : List ℕ → List ℕ
+greeting_of host = joined (codes "220 " ∷ host ∷ codes " ESMTP Postfix" ∷ crlf ∷ [])
+
+-- a recipient that was accepted
+unfoldable pub accepted_line : ℕ → Address → List ℕ
+accepted_line line recipient =
+    joined (decimal line ∷ codes " RCPT <" ∷ recipient.local ∷ codes "@" ∷ recipient.domain ∷ codes "> accept\n" ∷ [])
+
+-- a recipient that was denied, with the place of the restriction in its list
+unfoldable pub denied_line : ℕ → Address → ℕ → List ℕ
+denied_line line recipient place =
+    joined (decimal line ∷ codes " RCPT <" ∷ recipient.local ∷ codes "@" ∷ recipient.domain
+    ∷ codes "> deny smtpd_relay_restrictions[" ∷ decimal place ∷ codes "] reject_unauth_destination -\n" ∷ [])
+
+-- a line of the decision log, with the number of the command's line
+abbrev pub log_line : Entry → List ℕ
+log_line (Accepted line recipient) = accepted_line line recipient
+log_line (Denied line recipient place) = denied_line line recipient place

@@ -1,0 +1,5 @@
+//! Lines of a message's record.
+
+/// A line of a message's record. No verb of today gives one.
+#[derive(Debug, Drop)]
+pub enum RecordLine {}

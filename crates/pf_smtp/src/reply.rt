@@ -1,0 +1,159 @@
+//! The replies, an enum for each verb in the order of its checks, with their texts (RFC 5321, 4.2; RFC 3463).
+ghost use Rattle.std.specs.Prelude.{◌≡◌, ◌++◌, OnOk};
+ghost use Rattle.pf_smtp.specs.Text as text;
+
+use crate::path::Address;
+use pf_base::{Bytes, NoMemory};
+
+/// The replies to a line that is no command.
+#[derive(Clone, Copy, Debug, PartialEq, Eq)]
+pub enum LineReply {
+    TooLong,
+    BadSyntax,
+    NotRecognized,
+}
+
+/// The replies to HELO.
+#[derive(Clone, Copy, Debug, PartialEq, Eq)]
+pub enum HeloReply {
+    NeedsName,
+    Hello,
+}
+
+/// The replies to MAIL.
+#[derive(Clone, Copy, Debug, PartialEq, Eq)]
+pub enum MailReply {
+    Nested,
+    Syntax,
+    BadSender,
+    Taken,
+}
+
+/// The replies to RCPT.
+#[derive(Debug, PartialEq, Eq, Drop)]
+pub enum RcptReply {
+    NeedMail,
+    Syntax,
+    BadRecipient,
+    RelayDenied(Address),
+    Taken,
+}
+
+/// The replies to QUIT.
+#[derive(Clone, Copy, Debug, PartialEq, Eq)]
+pub enum QuitReply {
+    Syntax,
+    Bye,
+}
+
+/// A reply.
+#[derive(Debug, PartialEq, Eq, Drop)]
+pub enum Reply {
+    Line(LineReply),
+    Helo(HeloReply),
+    Mail(MailReply),
+    Rcpt(RcptReply),
+    Quit(QuitReply),
+}
+
+#[tactic(auto, unfolding(crate::specs::Text::line_text))]
+fn line_text(reply: LineReply) -> &'static [u8]
+    ensures { result.now ≡ text.line_text reply }
+{
+    match reply {
+        LineReply::TooLong => b"500 5.5.2 Error: line too long",
+        LineReply::BadSyntax => b"500 5.5.2 Error: bad syntax",
+        LineReply::NotRecognized => b"500 5.5.2 Error: command not recognized",
+    }
+}
+
+#[tactic(auto, unfolding(crate::specs::Text::mail_text))]
+fn mail_text(reply: MailReply) -> &'static [u8]
+    ensures { result.now ≡ text.mail_text reply }
+{
+    match reply {
+        MailReply::Nested => b"503 5.5.1 Error: nested MAIL command",
+        MailReply::Syntax => b"501 5.5.4 Syntax: MAIL FROM:<address>",
+        MailReply::BadSender => b"501 5.1.7 Bad sender address syntax",
+        MailReply::Taken => b"250 2.1.0 Ok",
+    }
+}
+
+#[tactic(auto, unfolding(crate::specs::Text::quit_text))]
+fn quit_text(reply: QuitReply) -> &'static [u8]
+    ensures { result.now ≡ text.quit_text reply }
+{
+    match reply {
+        QuitReply::Syntax => b"501 5.5.4 Syntax: QUIT",
+        QuitReply::Bye => b"221 2.0.0 Bye",
+    }
+}
+
+#[tactic(auto, unfolding(crate::specs::Text::helo_text))]
+fn print_helo(reply: HeloReply, host: &[u8], sent: &mut Bytes) -> Result<(), NoMemory>
+    ensures { OnOk result (sent.new ≡ sent.old ++ text.helo_text host.now reply) }
+{
+    match reply {
+        HeloReply::NeedsName => sent.extend(b"501 5.5.4 Syntax: HELO hostname"),
+        HeloReply::Hello => sent.extend_all(&[b"250 ", host]),
+    }
+}
+
+#[tactic(auto, unfolding(crate::specs::Text::relay_denied_text))]
+fn print_relay_denied(address: &Address, sent: &mut Bytes) -> Result<(), NoMemory>
+    ensures { OnOk result (sent.new ≡ sent.old ++ text.relay_denied_text address.now) }
+{
+    sent.extend_all(&[
+        b"554 5.7.1 <",
+        address.local.as_slice(),
+        b"@",
+        address.domain.as_slice(),
+        b">: Relay access denied",
+    ])
+}
+
+#[tactic(auto, unfolding(crate::specs::Text::rcpt_text))]
+fn print_rcpt(reply: &RcptReply, sent: &mut Bytes) -> Result<(), NoMemory>
+    ensures { OnOk result (sent.new ≡ sent.old ++ text.rcpt_text reply.now) }
+{
+    match reply {
+        RcptReply::NeedMail => sent.extend(b"503 5.5.1 Error: need MAIL command"),
+        RcptReply::Syntax => sent.extend(b"501 5.5.4 Syntax: RCPT TO:<address>"),
+        RcptReply::BadRecipient => sent.extend(b"501 5.1.3 Bad recipient address syntax"),
+        RcptReply::RelayDenied(address) => print_relay_denied(address, sent),
+        RcptReply::Taken => sent.extend(b"250 2.1.5 Ok"),
+    }
+}
+
+impl Reply {
+    // Adds the reply without its line end.
+    fn print_text(&self, host: &[u8], sent: &mut Bytes) -> Result<(), NoMemory>
+        ensures { OnOk result (sent.new ≡ sent.old ++ text.reply_text host.now self.now) }
+    {
+        match self {
+            Reply::Line(reply) => sent.extend(line_text(*reply)),
+            Reply::Helo(reply) => print_helo(*reply, host, sent),
+            Reply::Mail(reply) => sent.extend(mail_text(*reply)),
+            Reply::Rcpt(reply) => print_rcpt(reply, sent),
+            Reply::Quit(reply) => sent.extend(quit_text(*reply)),
+        }
+    }
+
+    /// Adds the reply as it is sent, with its line end; `host` is the server's name.
+    #[tactic(auto, unfolding(crate::specs::Text::text_of))]
+    pub(crate) fn print(&self, host: &[u8], sent: &mut Bytes) -> Result<(), NoMemory>
+        ensures { OnOk result (sent.new ≡ sent.old ++ text.text_of host.now self.now) }
+    {
+        self.print_text(host, sent)?;
+        sent.extend(b"\r\n")?;
+        Ok(())
+    }
+}
+
+/// Adds what the server says first.
+#[tactic(auto, unfolding(crate::specs::Text::greeting_of))]
+pub(crate) fn print_greeting(host: &[u8], sent: &mut Bytes) -> Result<(), NoMemory>
+    ensures { OnOk result (sent.new ≡ sent.old ++ text.greeting_of host.now) }
+{
+    sent.extend_all(&[b"220 ", host, b" ESMTP Postfix", b"\r\n"])
+}

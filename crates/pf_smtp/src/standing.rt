@@ -1,0 +1,151 @@
+//! Where a session stands between two pieces of its input.
+ghost use Rattle.std.specs.Prelude.{◌≡◌, ◌≤◌, ◌++◌, [], length, take, OnOk};
+ghost use Rattle.std.specs.List.{flat_map};
+ghost use Rattle.pf_smtp.specs.Text.{text_of, log_line};
+
+use crate::entry::Entry;
+use crate::reply::Reply;
+use crate::state::{Answer, Setup, State};
+use pf_base::{Bytes, NoMemory, first_line};
+use std::alloc::Global;
+use std::marker::Model;
+
+// How much of a line is kept: this many bytes tell that it is too long, with its carriage return or without.
+const KEPT: u64 = 2050;
+
+/// The front of a line that has not ended: at most 2,050 bytes.
+#[derive(Debug, Drop)]
+pub struct LineBuffer {
+    bytes: Bytes,
+}
+
+impl Model for LineBuffer {
+    ghost use Rattle.std.specs.Prelude.{◌≤◌, List, ℕ, length};
+
+    ghost Value = { List ℕ };
+
+    ghost view = { λ buffer. buffer.bytes };
+
+    ghost invariant = { λ buffer. length buffer.bytes ≤ 2050 };
+}
+
+impl LineBuffer {
+    pub(crate) fn new(alloc: Global) -> LineBuffer
+        ensures { result ≡ [] }
+    {
+        LineBuffer {
+            bytes: Bytes::new(alloc),
+        }
+    }
+
+    // Keeps the front of what the line is now.
+    fn keep(&mut self, bytes: &[u8]) -> Result<(), NoMemory>
+        ensures { OnOk result (self.new ≡ take 2050 (self.old ++ bytes.now)) }
+    {
+        let room = (KEPT - self.bytes.len()) as usize;
+        let count = room.min(bytes.len());
+        self.bytes.extend(&bytes[..count])?;
+        Ok(())
+    }
+
+    fn as_slice(&self) -> &[u8]
+        ensures { result.now ≡ self.now }
+    {
+        self.bytes.as_slice()
+    }
+
+    fn clear(&mut self)
+        ensures { self.new ≡ [] }
+    {
+        self.bytes.clear();
+    }
+}
+
+/// What a session is set up with, its state, and the front of the line that has not ended.
+#[derive(Debug, Drop)]
+pub struct Standing {
+    pub setup: Setup,
+    pub state: State,
+    pub part: LineBuffer,
+}
+
+// The texts of a piece's replies and log lines.
+#[derive(Debug, Drop)]
+pub(crate) struct Gathered {
+    pub(crate) out: Bytes,
+    pub(crate) log: Bytes,
+}
+
+fn add_replies(out: &mut Bytes, host: &[u8], replies: &[Reply]) -> Result<(), NoMemory>
+    ensures { OnOk result (out.new ≡ out.old ++ flat_map (text_of host.now) replies.now) }
+{
+    for reply in replies {
+        reply.print(host, out)?;
+    }
+    Ok(())
+}
+
+fn add_entries(alloc: Global, log: &mut Bytes, entries: &[Entry]) -> Result<(), NoMemory>
+    ensures { OnOk result (log.new ≡ log.old ++ flat_map log_line entries.now) }
+{
+    for entry in entries {
+        entry.print(alloc, log)?;
+    }
+    Ok(())
+}
+
+impl Gathered {
+    fn add(&mut self, alloc: Global, host: &[u8], answer: &Answer) -> Result<(), NoMemory>
+        ensures out { OnOk result (self.new.out ≡ self.old.out ++ flat_map (text_of host.now) answer.now.replies) }
+        ensures log { OnOk result (self.new.log ≡ self.old.log ++ flat_map log_line answer.now.entries) }
+    {
+        add_replies(&mut self.out, host, answer.replies.as_slice())?;
+        add_entries(alloc, &mut self.log, answer.entries.as_slice())?;
+        Ok(())
+    }
+}
+
+impl Standing {
+    ghost use Rattle.pf_smtp.specs.Gathering.{AnswersLine, AnswersPiece};
+
+    // Answers a line, whose last bytes these are, and has nothing of the next one.
+    fn take_line(
+        &mut self,
+        alloc: Global,
+        line: &[u8],
+        gathered: &mut Gathered,
+    ) -> Result<(), NoMemory>
+        ensures { OnOk result (AnswersLine gathered.old gathered.new self.old self.new line.now) }
+    {
+        self.part.keep(line)?;
+        let answer = self.state.step(alloc, &self.setup, self.part.as_slice())?;
+        self.part.clear();
+        gathered.add(alloc, self.setup.host.as_slice(), &answer)?;
+        Ok(())
+    }
+
+    /// Answers the lines that end in a piece, and keeps the front of the one that doesn't.
+    pub(crate) fn take_piece(
+        &mut self,
+        alloc: Global,
+        piece: &[u8],
+        gathered: &mut Gathered,
+    ) -> Result<(), NoMemory>
+        ensures { OnOk result (AnswersPiece gathered.old gathered.new self.old self.new piece.now) }
+    {
+        let mut left = piece;
+        'lines: while !self.state.over {
+            match first_line(left) {
+                None => {
+                    self.part.keep(left)?;
+                    return Ok(());
+                }
+                Some((line, behind)) => {
+                    self.take_line(alloc, line, gathered)?;
+                    left = behind;
+                }
+            }
+        }
+        Ok(())
+    }
+}

@@ -1,0 +1,31 @@
+//! The state of a session, what it is set up with, and what a line gives.
+use crate::entry::Entry;
+use crate::path::Address;
+use crate::record_line::RecordLine;
+use crate::reply::Reply;
+use pf_base::{Bytes, List};
+use pf_eval::PlainPolicy;
+
+/// The server's name, its policy, and the client's address.
+#[derive(Debug, Drop)]
+pub struct Setup {
+    pub host: Bytes,
+    pub policy: PlainPolicy,
+    pub client: u32,
+}
+
+/// How many lines there were, the sender of the transaction that is open, and whether the session is over.
+#[derive(Debug, PartialEq, Eq, Drop)]
+pub struct State {
+    pub line: u64,
+    pub sender: Option<Address>,
+    pub over: bool,
+}
+
+/// What a line gives.
+#[derive(Debug, Drop)]
+pub(crate) struct Answer {
+    pub(crate) replies: List<Reply>,
+    pub(crate) records: List<RecordLine>,
+    pub(crate) entries: List<Entry>,
+}
