@@ -1,3 +1,4 @@
+pub mod CutLemmas
 pub mod FileListLemmas
 pub mod LineEnds
 pub mod LogicalLemmas

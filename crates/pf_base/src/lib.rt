@@ -3,6 +3,7 @@
 #![tactic(auto)]
 
 mod bytes;
+mod cuts;
 mod fault;
 mod lines;
 mod list;
@@ -16,6 +17,7 @@ mod refused;
 mod space;
 
 pub use bytes::Bytes;
+pub use cuts::{before_byte, behind_byte, cut_at};
 pub use fault::{Failed, NoMemory, OuterFault};
 pub use lines::{first_line, without_return};
 pub use list::List;

@@ -1,10 +1,10 @@
 //! Paths: `<local@domain>` (RFC 5321, 4.1.2, in this profile).
-ghost use Rattle.std.specs.Prelude.{◌≡◌, ◌≤◌, ◌==◌, length, IfOk};
-ghost use Rattle.std.specs.List.{after_first, before_first, list_all, position_or_len};
+ghost use Rattle.std.specs.Prelude.{◌≡◌, IfOk};
+ghost use Rattle.std.specs.List.{list_all};
 ghost use Rattle.std.specs.Option.{option_copied};
 ghost use Rattle.pf_smtp.specs.Path as path;
 
-use pf_base::{Bytes, NoMemory, is_host_name};
+use pf_base::{Bytes, NoMemory, before_byte, behind_byte, is_host_name};
 use std::alloc::Global;
 
 /// A mail address.
@@ -53,39 +53,11 @@ fn bracketed(text: &[u8]) -> Option<&[u8]>
     }
 }
 
-// Where the first at sign stands.
-fn at_sign(text: &[u8]) -> usize
-    ensures within { result ≤ length text.now }
-    ensures end { result ≡ position_or_len (λ b. b == 64) text.now }
-{
-    for (i, b) in text.iter().enumerate() {
-        if *b == b'@' {
-            return i;
-        }
-    }
-    text.len()
-}
-
-fn before_at(text: &[u8]) -> &[u8]
-    ensures { result.now ≡ before_first (λ b. b == 64) text.now }
-{
-    &text[..at_sign(text)]
-}
-
-fn behind_at(text: &[u8]) -> &[u8]
-    ensures { result.now ≡ after_first (λ b. b == 64) text.now }
-{
-    match &text[at_sign(text)..] {
-        [] => &[],
-        [_, behind @ ..] => behind,
-    }
-}
-
 fn address_of(alloc: Global, text: &[u8]) -> Result<Option<Address>, NoMemory>
     ensures { IfOk result (λ address. address ≡ path.address_of text.now) }
 {
-    let local = before_at(text);
-    let domain = behind_at(text);
+    let local = before_byte(text, b'@');
+    let domain = behind_byte(text, b'@');
     if is_local_part(local) && is_host_name(domain) {
         let local = Bytes::from_slice(alloc, local)?;
         let domain = Bytes::from_slice(alloc, domain)?;

@@ -1,0 +1,83 @@
+-- Pieces that pass from the input to a session.
+use Rattle.std.proofs.Common.{◌≡◌, ℕ, ◌+◌, Bool, true, false, List, [], ◌++◌, Option, length, refl, sym, ap, ◌∙◌, arith, if◌then◌else◌, length-append}
+use Rattle.std.specs.Io.KnownBytes.{append_known, prepend_known}
+use Rattle.pf_base.proofs.ToldLemmas.{append_known-append, prepend_known-append, prepend_known-nil}
+use Rattle.pf_smtp.specs.Session.{fresh, given, session, start, steps, replies_text, log_text}
+use Rattle.pf_smtp.specs.Text.{greeting_of}
+use Rattle.pf_smtp.specs.declared.session.Going.TheVariants.{More, Over}
+use Rattle.pf_smtp.specs.declared.standing.Standing.{Standing}
+use Rattle.pf_smtp.specs.declared.state.Setup.{Setup}
+use Rattle.pf_smtp.proofs.StepLemmas.{onto_line_nothing}
+use Rattle.pf_smtp.proofs.TookLemmas.{took_none, took_more}
+use Rattle.pf_base.specs.Lines.{lines}
+use Rattle.pf_top.specs.Talk.{World, Passed, PassedCount, Serves, EndsAs, SessionEndsAs, Talks, TalksUntil}
+use Rattle.pf_top.specs.declared.talk.Ended.{Ended}
+use Rattle.pf_top.specs.declared.talk.Ended.TheVariants as ended
+
+pub going_more : (b : Bool) → More ≡ (if b then Over else More) → b ≡ false
+going_more true e = cc
+going_more false e = refl
+
+pub going_over : (b : Bool) → Over ≡ (if b then Over else More) → b ≡ true
+going_over true e = refl
+going_over false e = cc
+
+-- nothing has passed to a session that has not begun
+pub passed_none : (w : World) (setup : Setup) → PassedCount w w (fresh setup) (fresh setup) 0
+passed_none w setup = record {
+  passed = record { taken = []; input = sym (prepend_known-nil w.input); took = took_none (record { out = w.out; log = w.log }) setup };
+  is = refl;
+}
+
+pub passed_more : {a b c : World} {s t u : Standing} → Passed a b s t → Passed b c t u → Passed a c s u
+passed_more {a} {b} {c} p q = record {
+  taken = p.taken ++ q.taken;
+  input = p.input ∙ ap (prepend_known p.taken) q.input ∙ prepend_known-append p.taken q.taken c.input;
+  took = took_more p.took q.took;
+}
+
+pub count_more : {a b c : World} {s t u : Standing} {m n : ℕ} → PassedCount a b s t m → PassedCount b c t u n → PassedCount a c s u (m + n)
+unfolding passed_more
+count_more {m = m} {n = n} p q = record {
+  passed = passed_more p.passed q.passed;
+  is = length-append p.passed.taken q.passed.taken ∙ omega (arith, p.is, q.is);
+}
+
+-- what a session gives that stands at its start is what the whole session gives
+pub given_fresh : (setup : Setup) (taken : List ℕ) → given (fresh setup) taken ≡ session setup taken
+given_fresh setup taken = ap (steps setup start) (onto_line_nothing (lines taken))
+
+-- the same of a session that is one at its start
+given_at : (setup : Setup) {s : Standing} → s ≡ fresh setup → (taken : List ℕ) → given s taken ≡ session setup taken
+given_at setup begins taken = ap (λ s. given s taken) begins ∙ given_fresh setup taken
+
+-- behind the greeting, what passes to a session is what the whole session talks
+pub passed_talks : (setup : Setup) {before mid now : World} {s new : Standing} → s ≡ fresh setup
+    → mid ≡ record before { out = append_known before.out (greeting_of setup.host) } → Passed mid now s new → Talks setup before now
+passed_talks setup {before} {mid} {now} {s} {new} begins greeted p =
+    let start = given_at setup begins p.taken in
+    record {
+      taken = p.taken;
+      input = ap (λ w. w.input) (sym greeted) ∙ p.input;
+      out = p.took.out ∙ ap (λ w. append_known w.out (replies_text s.setup (given s p.taken))) greeted
+          ∙ append_known-append before.out (greeting_of setup.host) (replies_text s.setup (given s p.taken))
+          ∙ ap (λ u. append_known before.out (greeting_of setup.host ++ replies_text u.setup (given s p.taken))) begins
+          ∙ ap (λ g. append_known before.out (greeting_of setup.host ++ replies_text setup g)) start;
+      log = p.took.log ∙ ap (λ w. append_known w.log (log_text (given s p.taken))) greeted ∙ ap (λ g. append_known before.log (log_text g)) start;
+    }
+
+-- and it comes to its end as they say
+ends_talk : (setup : Setup) {mid now : World} {s new : Standing} (begins : s ≡ fresh setup) (p : Passed mid now s new) (how : Ended)
+    → EndsAs now p.taken new how → SessionEndsAs setup now p.taken how
+ends_talk setup begins p ended.AtEnd e = e
+ends_talk setup begins p ended.AtOver e = ap (λ g. g.next.over) (sym (given_at setup begins p.taken)) ∙ ap (λ s. s.over) (sym p.took.state) ∙ e
+ends_talk setup begins p ended.AtBudget e =
+    (e.0, ap (λ g. g.next.over) (sym (given_at setup begins p.taken)) ∙ ap (λ s. s.over) (sym p.took.state) ∙ e.1)
+
+pub serves_talks : (setup : Setup) {before mid now : World} {s new : Standing} (how : Ended) → s ≡ fresh setup
+    → mid ≡ record before { out = append_known before.out (greeting_of setup.host) } → Serves mid now s new how → TalksUntil setup before now how
+unfolding passed_talks
+serves_talks setup how begins greeted v = record {
+  talks = passed_talks setup begins greeted v.passed;
+  ends = ends_talk setup begins v.passed how v.ends;
+}

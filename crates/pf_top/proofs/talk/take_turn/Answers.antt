@@ -1,0 +1,21 @@
+use Rattle.std.proofs.Common.{◌≡◌, sym, ◌∙◌, take}
+use Rattle.pf_top.proofs.TalkLemmas.{going_more, going_over}
+use Rattle.pf_top.proofs.talk.take_turn.Goals as goal
+
+pub returns-in-Ok-More-clause-turn : goal.returns-in-Ok-More-clause-turn
+returns-in-Ok-More-clause-turn g c = (
+  record {
+    passed = record { taken = take c.in-Ok.count c.read.new.buf; input = c.in-Ok.ensures.bytes.0; took = c.in-Ok-More.ensures.took };
+    is = sym c.in-Ok.ensures.bound.1;
+  },
+  going_more _ (sym c.in-Ok-More.field-0-is ∙ c.in-Ok-More.ensures.going),
+)
+
+pub returns-in-Ok-Over-clause-turn : goal.returns-in-Ok-Over-clause-turn
+returns-in-Ok-Over-clause-turn g c = (
+  record {
+    passed = record { taken = take c.in-Ok.count c.read.new.buf; input = c.in-Ok.ensures.bytes.0; took = c.in-Ok-Over.ensures.took };
+    is = sym c.in-Ok.ensures.bound.1;
+  },
+  going_over _ (sym c.in-Ok-Over.field-0-is ∙ c.in-Ok-Over.ensures.going),
+)

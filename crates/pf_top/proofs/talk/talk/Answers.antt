@@ -1,0 +1,20 @@
+use Rattle.std.proofs.Common.{◌≡◌, List, Option, ℕ, sym, ap, ◌∙◌}
+use Rattle.std.proofs.lemmas.Result.{IfOk-weaker}
+use Rattle.pf_top.specs.Opening.{setup_of}
+use Rattle.pf_top.specs.Talk.{world}
+use Rattle.pf_top.proofs.TalkLemmas.{passed_talks, serves_talks}
+use Rattle.pf_top.proofs.talk.talk.Goals as goal
+
+pub returns-in-Ok-clause-talks : goal.returns-in-Ok-clause-talks
+returns-in-Ok-clause-talks g c =
+    let begins = c.in-Ok.ensures.same ∙ c.new-session.ensures in
+    let greeted = rw c.new-session.ensures at c.in-Ok.ensures.out in
+    let mid = ap (λ (out : Option (List ℕ)). world (g.S.Source.left c.args.input.now) out (g.J.Sink.written c.args.log.now)) greeted in
+    IfOk-weaker c.serve.result _ _ (λ how serves. serves_talks (setup_of c.args.opening c.args.client) how begins mid serves) c.serve.ensures.serves
+
+pub returns-in-Ok-clause-failed : goal.returns-in-Ok-clause-failed
+returns-in-Ok-clause-failed g c = λ failed.
+    let begins = c.in-Ok.ensures.same ∙ c.new-session.ensures in
+    let greeted = rw c.new-session.ensures at c.in-Ok.ensures.out in
+    let mid = ap (λ (out : Option (List ℕ)). world (g.S.Source.left c.args.input.now) out (g.J.Sink.written c.args.log.now)) greeted in
+    passed_talks (setup_of c.args.opening c.args.client) begins mid (c.serve.ensures.failed failed)

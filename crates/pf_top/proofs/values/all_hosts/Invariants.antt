@@ -1,0 +1,7 @@
+use Rattle.std.proofs.Common.{◌≡◌, ◌++◌, drop}
+use Rattle.std.specs.Option.{option_map}
+use Rattle.pf_top.specs.Values.{all_of, host_of}
+use Rattle.pf_top.proofs.values.all_hosts.Given as goal
+
+abbrev pub invariant-loop-item : goal.invariant-loop-item
+invariant-loop-item l = all_of host_of l.items ≡ option_map (λ others. l.hosts ++ others) (all_of host_of (drop l.item-index l.items))

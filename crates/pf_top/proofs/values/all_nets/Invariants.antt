@@ -1,0 +1,8 @@
+use Rattle.std.proofs.Common.{◌≡◌, ◌++◌, drop}
+use Rattle.std.specs.Option.{option_map}
+use Rattle.pf_top.specs.Address.{net_of}
+use Rattle.pf_top.specs.Values.{all_of}
+use Rattle.pf_top.proofs.values.all_nets.Given as goal
+
+abbrev pub invariant-loop-item : goal.invariant-loop-item
+invariant-loop-item l = all_of net_of l.items ≡ option_map (λ others. l.nets ++ others) (all_of net_of (drop l.item-index l.items))

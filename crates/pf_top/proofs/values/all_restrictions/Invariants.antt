@@ -1,0 +1,7 @@
+use Rattle.std.proofs.Common.{◌≡◌, ◌++◌, drop}
+use Rattle.std.specs.Option.{option_map}
+use Rattle.pf_top.specs.Values.{all_of, restriction_of}
+use Rattle.pf_top.proofs.values.all_restrictions.Given as goal
+
+abbrev pub invariant-loop-item : goal.invariant-loop-item
+invariant-loop-item l = all_of restriction_of l.items ≡ option_map (λ others. l.relay ++ others) (all_of restriction_of (drop l.item-index l.items))

@@ -1,0 +1,60 @@
+-- What a run leaves, for each of its statuses.
+use Rattle.std.specs.Prelude.{◌≡◌, ℕ, ◌==◌, ◌||◌, Bool, List, Option, Some, None, codes}
+use Rattle.std.specs.Io.KnownBytes.{append_known}
+use Rattle.pf_base.specs.FileList.{file_of}
+use Rattle.pf_base.specs.declared.pair.Pair.{Pair}
+use Rattle.pf_top.specs.Opening.{file_opened, setup_of}
+use Rattle.pf_top.specs.Talk.{World, Talks, TalksUntil}
+use Rattle.pf_top.specs.Words.{Options, options_of}
+use Rattle.pf_top.specs.declared.opening.Opening.{Opening}
+use Rattle.pf_top.specs.declared.talk.Ended.{Ended}
+
+-- the lines that a run says of itself in the log
+unfoldable pub usage_line : List ℕ
+usage_line = codes "usage: postgate smtpd|relaycheck|postconf|postmap|workload\n"
+
+unfoldable pub refused_line : List ℕ
+refused_line = codes "postgate: main.cf:0: C14 setting outside the profile\n"
+
+unfoldable pub read_failed_line : List ℕ
+read_failed_line = codes "postgate: main.cf: read failed\n"
+
+-- what main.cf says, where the files tell
+abbrev pub conf_file : List Pair → Option Opening
+conf_file files = file_opened (file_of files (codes "main.cf"))
+
+-- the log took a line, and nothing was taken from the input or written to the output
+abbrev pub logged : World → List ℕ → World
+logged before line = record before { log = append_known before.log line }
+
+-- the words are well-formed, main.cf is accepted, and the session of the bytes that were taken was talked to its end
+pub record Served (words : List (List ℕ)) (content : Option (List Pair)) (before now : World) (which : Ended → Type 0) : Type 0 where
+  pub options : Options
+  pub opening : Opening
+  pub how : Ended
+  pub well_formed : options_of words ≡ Some options
+  pub accepted : (files : List Pair) → content ≡ Some files → conf_file files ≡ Some opening
+  pub ended : which how
+  pub talks : TalksUntil (setup_of opening options.client) before now how
+
+-- the same of a session that was broken off by its input
+pub record BrokenOff (words : List (List ℕ)) (content : Option (List Pair)) (before now : World) : Type 0 where
+  pub options : Options
+  pub opening : Opening
+  pub well_formed : options_of words ≡ Some options
+  pub accepted : (files : List Pair) → content ≡ Some files → conf_file files ≡ Some opening
+  pub talks : Talks (setup_of opening options.client) before now
+
+-- the words are of another form, and the log has the usage line
+pub record SaysUsage (words : List (List ℕ)) (before now : World) : Type 0 where
+  pub malformed : options_of words ≡ None
+  pub said : now ≡ logged before usage_line
+
+-- main.cf is not accepted, and the log says so
+pub record Refuses (content : Option (List Pair)) (before now : World) : Type 0 where
+  pub refused : (files : List Pair) → content ≡ Some files → conf_file files ≡ None
+  pub said : now ≡ logged before refused_line
+
+-- the statuses that a run answers
+abbrev pub is_status : ℕ → Bool
+is_status n = n == 0 || n == 2 || n == 3 || n == 4 || n == 5 || n == 7 || n == 8 || n == 9 || n == 10

@@ -1,0 +1,56 @@
+-- The values of the four parameters (postconf(5): myhostname, mydestination, mynetworks, smtpd_relay_restrictions).
+use Rattle.std.specs.Prelude.{ℕ, ◌==◌, ◌&&◌, ◌||◌, Bool, true, false, nat_lt, List, [], ◌∷◌, Option, Some, None, length, codes, if◌then◌else◌}
+use Rattle.std.specs.List.{filter, list_all, list_any, slice_split}
+use Rattle.std.specs.Option.{option_and_then, option_map}
+use Rattle.pf_base.specs.Names.{is_host_name, same_name}
+use Rattle.pf_base.specs.Space.{is_space}
+use Rattle.pf_eval.specs.Nets.{Net}
+use Rattle.pf_eval.specs.declared.policy.PlainItem.{PlainItem}
+use Rattle.pf_eval.specs.declared.policy.PlainItem.TheVariants.{PermitMynetworks, RejectUnauthDestination}
+use Rattle.pf_top.specs.Address.{net_of}
+
+-- the items of a value are parted by space and commas
+abbrev pub is_separator : ℕ → Bool
+is_separator b = is_space b || b == 44
+
+abbrev pub items_of : List ℕ → List (List ℕ)
+items_of value = filter (λ item. nat_lt 0 (length item)) (slice_split is_separator value)
+
+-- what each item is, where each is something
+abbrev pub all_of : {A : Type 0} → (List ℕ → Option A) → List (List ℕ) → Option (List A)
+all_of f [] = Some []
+all_of f (item ∷ items) = option_and_then (λ first. option_map (λ others. first ∷ others) (all_of f items)) (f item)
+
+-- one or more
+abbrev pub one_or_more : {A : Type 0} → List A → Option (List A)
+one_or_more items = if nat_lt 0 (length items) then Some items else None
+
+-- myhostname: a host name
+unfoldable pub host_of : List ℕ → Option (List ℕ)
+host_of value = if is_host_name value then Some value else None
+
+-- mydestination: one or more host names
+unfoldable pub hosts_of : List ℕ → Option (List (List ℕ))
+hosts_of value = option_and_then one_or_more (all_of host_of (items_of value))
+
+-- mynetworks: one or more networks
+unfoldable pub nets_of : List ℕ → Option (List Net)
+nets_of value = option_and_then one_or_more (all_of net_of (items_of value))
+
+-- smtpd_relay_restrictions: restrictions, their words in any case
+unfoldable pub restriction_of : List ℕ → Option PlainItem
+restriction_of word =
+    if same_name word (codes "permit_mynetworks") then Some PermitMynetworks
+    else (if same_name word (codes "reject_unauth_destination") then Some RejectUnauthDestination
+    else None)
+
+abbrev pub is_closing : PlainItem → Bool
+is_closing PermitMynetworks = false
+is_closing RejectUnauthDestination = true
+
+-- one of them closes the list to strangers
+abbrev pub closed_list : List PlainItem → Option (List PlainItem)
+closed_list items = if list_any is_closing items then Some items else None
+
+unfoldable pub relay_of : List ℕ → Option (List PlainItem)
+relay_of value = option_and_then closed_list (all_of restriction_of (items_of value))

@@ -1,0 +1,166 @@
+//! The top call.
+ghost use Rattle.std.specs.Prelude.{◌≡◌, ◌≢◌, ◌≤◌, ◌⊎◌, List as Seq, None, Some, Ok, Err, true, map, IfOk, IsErrOf, OnOk};
+ghost use Rattle.std.specs.Io.KnownBytes.{append_known};
+ghost use Rattle.std.specs.Option.{option_map};
+ghost use Rattle.std.specs.String.{string_bytes};
+ghost use Rattle.pf_base.specs.Causes.{Rose};
+ghost use Rattle.pf_base.specs.declared.pair.Pair.{Pair};
+ghost use Rattle.pf_top.specs.Run.{BrokenOff, Refuses, SaysUsage, Served, conf_file, is_status, logged, read_failed_line, refused_line, usage_line};
+ghost use Rattle.pf_top.specs.Talk.{world};
+ghost use Rattle.pf_top.specs.Words.{options_of};
+
+use crate::opening::{MAIN_CF, Opening, text_opened};
+use crate::talk::{Ended, TalkFault, talk};
+use crate::words::options_of;
+use pf_base::{Files, NoMemory, OuterFault, ReadFault, Sink, Source, read_all};
+use std::alloc::Global;
+
+// The statuses of a run.
+const DONE: u8 = 0;
+
+const USAGE: u8 = 2;
+
+const REFUSED: u8 = 3;
+
+const INPUT_FAILED: u8 = 4;
+
+const OUT_FAILED: u8 = 5;
+
+const LOG_FAILED: u8 = 7;
+
+const FILES_FAILED: u8 = 8;
+
+const NO_MEMORY: u8 = 9;
+
+const AT_BUDGET: u8 = 10;
+
+// Why main.cf was not read.
+#[derive(Clone, Copy)]
+enum OpenFault {
+    Failed,
+    NoMemory,
+}
+
+// What main.cf says; None where it is not accepted.
+fn open_conf<F: Files>(alloc: Global, files: &mut F) -> Result<Option<Opening>, OpenFault>
+    ensures told { (all : Seq Pair) → F.content files.old ≡ Some all → IfOk result (λ opened. opened ≡ conf_file all) }
+    ensures same { F.content files.new ≡ F.content files.old }
+    ensures failed { result ≡ Err OpenFault.Failed → Rose (F.faults files.old) (F.faults files.new) }
+    ensures kept { OnOk result (F.faults files.new ≡ F.faults files.old) }
+{
+    let text = match read_all(alloc, files, MAIN_CF) {
+        Ok(Some(text)) => text,
+        Ok(None) | Err(ReadFault::TooLarge) => return Ok(None),
+        Err(ReadFault::Failed) => return Err(OpenFault::Failed),
+        Err(ReadFault::NoMemory) => return Err(OpenFault::NoMemory),
+    };
+    match text_opened(alloc, text.as_slice()) {
+        Ok(opened) => Ok(opened),
+        Err(NoMemory) => Err(OpenFault::NoMemory),
+    }
+}
+
+// Says how the program is used.
+#[tactic(auto, unfolding(crate::specs::Run::usage_line))]
+fn say_usage<J: Sink>(log: &mut J) -> u8
+    ensures said { result ≡ 2 → J.written log.new ≡ append_known (J.written log.old) usage_line }
+    ensures failed { result ≡ 7 → Rose (J.faults log.old) (J.faults log.new) }
+    ensures status { (result ≡ 2) ⊎ (result ≡ 7) ⊎ (result ≡ 9) }
+{
+    match log.write(b"usage: postgate smtpd|relaycheck|postconf|postmap|workload\n") {
+        Ok(()) => USAGE,
+        Err(OuterFault::Failed) => LOG_FAILED,
+        Err(OuterFault::NoMemory) => NO_MEMORY,
+    }
+}
+
+// Says that main.cf is not accepted.
+#[tactic(auto, unfolding(crate::specs::Run::refused_line))]
+fn say_refused<J: Sink>(log: &mut J) -> u8
+    ensures said { result ≡ 3 → J.written log.new ≡ append_known (J.written log.old) refused_line }
+    ensures failed { result ≡ 7 → Rose (J.faults log.old) (J.faults log.new) }
+    ensures status { (result ≡ 3) ⊎ (result ≡ 7) ⊎ (result ≡ 9) }
+{
+    match log.write(b"postgate: main.cf:0: C14 setting outside the profile\n") {
+        Ok(()) => REFUSED,
+        Err(OuterFault::Failed) => LOG_FAILED,
+        Err(OuterFault::NoMemory) => NO_MEMORY,
+    }
+}
+
+// Says that main.cf could not be read.
+#[tactic(auto, unfolding(crate::specs::Run::read_failed_line))]
+fn say_read_failed<J: Sink>(log: &mut J) -> u8
+    ensures said { result ≡ 8 → J.written log.new ≡ append_known (J.written log.old) read_failed_line }
+    ensures failed { result ≡ 7 → Rose (J.faults log.old) (J.faults log.new) }
+    ensures status { (result ≡ 8) ⊎ (result ≡ 7) ⊎ (result ≡ 9) }
+{
+    match log.write(b"postgate: main.cf: read failed\n") {
+        Ok(()) => FILES_FAILED,
+        Err(OuterFault::Failed) => LOG_FAILED,
+        Err(OuterFault::NoMemory) => NO_MEMORY,
+    }
+}
+
+/// Runs a command: `words` are the program's words without its own name. The session's bytes come from `input`, the
+/// replies go to `out`, the decisions to `log`, and main.cf is read from `files`; `mail` takes nothing yet.
+/// It answers the exit status: 0 done, 2 the words are of another form, 3 main.cf is not accepted, 9 no memory,
+/// 10 the byte budget was taken; 4, 5, 7 and 8 come only where the count of `input`, `out`, `log` or `files` rose.
+pub fn run<S: Source, O: Sink, M: Sink, J: Sink, F: Files>(
+    alloc: Global,
+    words: &[String],
+    input: &mut S,
+    out: &mut O,
+    mail: &mut M,
+    log: &mut J,
+    files: &mut F,
+) -> u8
+    ensures done { result ≡ 0 → Served (map string_bytes words.now) (F.content files.old)
+        (world (S.left input.old) (O.written out.old) (J.written log.old))
+        (world (S.left input.new) (O.written out.new) (J.written log.new)) (λ how. how ≢ Ended.AtBudget) }
+    ensures budget { result ≡ 10 → Served (map string_bytes words.now) (F.content files.old)
+        (world (S.left input.old) (O.written out.old) (J.written log.old))
+        (world (S.left input.new) (O.written out.new) (J.written log.new)) (λ how. how ≡ Ended.AtBudget) }
+    ensures broken { result ≡ 4 → BrokenOff (map string_bytes words.now) (F.content files.old)
+        (world (S.left input.old) (O.written out.old) (J.written log.old))
+        (world (S.left input.new) (O.written out.new) (J.written log.new)) }
+    ensures usage { result ≡ 2 → SaysUsage (map string_bytes words.now)
+        (world (S.left input.old) (O.written out.old) (J.written log.old))
+        (world (S.left input.new) (O.written out.new) (J.written log.new)) }
+    ensures malformed { options_of (map string_bytes words.now) ≡ None → (result ≡ 2) ⊎ (result ≡ 7) ⊎ (result ≡ 9) }
+    ensures refused { result ≡ 3 → Refuses (F.content files.old)
+        (world (S.left input.old) (O.written out.old) (J.written log.old))
+        (world (S.left input.new) (O.written out.new) (J.written log.new)) }
+    ensures unread { result ≡ 8 → world (S.left input.new) (O.written out.new) (J.written log.new)
+        ≡ logged (world (S.left input.old) (O.written out.old) (J.written log.old)) read_failed_line }
+
+    // Why each fault is answered.
+    ensures input_failed { result ≡ 4 → Rose (S.faults input.old) (S.faults input.new) }
+    ensures out_failed { result ≡ 5 → Rose (O.faults out.old) (O.faults out.new) }
+    ensures log_failed { result ≡ 7 → Rose (J.faults log.old) (J.faults log.new) }
+    ensures files_failed { result ≡ 8 → Rose (F.faults files.old) (F.faults files.new) }
+    ensures known { is_status result ≡ true }
+
+    // What stays as it was.
+    ensures mail { M.written mail.new ≡ M.written mail.old }
+    ensures content { F.content files.new ≡ F.content files.old }
+{
+    let Some(options) = options_of(words) else {
+        return say_usage(log);
+    };
+    let opening = match open_conf(alloc, files) {
+        Ok(Some(opening)) => opening,
+        Ok(None) => return say_refused(log),
+        Err(OpenFault::Failed) => return say_read_failed(log),
+        Err(OpenFault::NoMemory) => return NO_MEMORY,
+    };
+    match talk(alloc, opening, options.client, input, out, log) {
+        Ok(Ended::AtEnd) => DONE,
+        Ok(Ended::AtOver) => DONE,
+        Ok(Ended::AtBudget) => AT_BUDGET,
+        Err(TalkFault::Input) => INPUT_FAILED,
+        Err(TalkFault::Out) => OUT_FAILED,
+        Err(TalkFault::Log) => LOG_FAILED,
+        Err(TalkFault::NoMemory) => NO_MEMORY,
+    }
+}
