@@ -1,0 +1,60 @@
+//! postgate: the words of the process, and the real objects that the top call works on.
+#![tactic(auto)]
+
+mod real;
+
+use pf_base::{OuterFault, Sink};
+use pf_top::{run, sink_names};
+use real::{FileSink, Reading, RealFiles, Writing};
+use std::alloc::Global;
+use std::env;
+use std::io::ErrorKind;
+use std::process::ExitCode;
+
+// The statuses that are answered before the top call.
+const USAGE: u8 = 2;
+
+const LOG_FAILED: u8 = 7;
+
+const NO_MEMORY: u8 = 9;
+
+// Words that are no text are no well-formed command; the kit tells them apart from want of memory.
+fn answer_fault(rt: &HostRuntime, kind: ErrorKind) -> u8 {
+    if kind == ErrorKind::OutOfMemory {
+        return NO_MEMORY;
+    }
+    match Writing::new(rt.stderr()).write(
+        b"usage: postgate smtpd|relaycheck|postconf|postmap|workload\n",
+    ) {
+        Ok(()) => USAGE,
+        Err(OuterFault::Failed) => LOG_FAILED,
+        Err(OuterFault::NoMemory) => NO_MEMORY,
+    }
+}
+
+// Runs the command of these words on the real objects.
+fn answer(rt: &HostRuntime, alloc: Global, words: &[String]) -> u8 {
+    let Ok(names) = sink_names(alloc, words) else {
+        return NO_MEMORY;
+    };
+    let mut mail = FileSink::new(rt, names.mail.unwrap_or(""));
+    let mut input = Reading::new(rt.stdin());
+    let mut out = Writing::new(rt.stdout());
+    let mut log = Writing::new(rt.stderr());
+    let mut files = RealFiles::new(rt);
+    run(
+        alloc, words, &mut input, &mut out, &mut mail, &mut log, &mut files,
+    )
+}
+
+fn main(rt: HostRuntime) -> ExitCode {
+    let alloc = rt.alloc();
+    let status = match env::args(&rt) {
+        Ok(args) => match args.skip(1).collect::<Vec<String>>(alloc) {
+            Ok(words) => answer(&rt, alloc, &words),
+            Err(_) => NO_MEMORY,
+        },
+        Err(fault) => answer_fault(&rt, fault.kind()),
+    };
+    ExitCode::from(status)
+}
