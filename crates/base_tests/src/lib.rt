@@ -1,0 +1,5 @@
+//! Tests of the lowest layers: lists, lines, files, main.cf and the judge.
+#![tactic(auto)]
+
+#[cfg(test)]
+mod tests;

@@ -1,0 +1,5 @@
+//! Tests of the session and the top call, over the forms in memory.
+#![tactic(auto)]
+
+#[cfg(test)]
+mod tests;
