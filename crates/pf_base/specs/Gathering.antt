@@ -1,7 +1,7 @@
 -- What one more line does to the logical lines so far.
-use Rattle.std.specs.Prelude.{◌≡◌, ◌≢◌, ◌++◌, List, [], ◌∷◌, Option, None, Some, Result, Ok, Err, MatchResult}
+use Rattle.std.specs.Prelude.{◌≡◌, ◌++◌, List, [], ◌∷◌, Option, None, Some, Result, Err, MatchResult}
 use Rattle.std.specs.List.{fold}
-use Rattle.pf_base.specs.Logical.{Physical, Grouped, alone, continued, unless_ignored, outcome}
+use Rattle.pf_base.specs.Logical.{Physical, Grouped, continued, unless_ignored, outcome}
 use Rattle.pf_base.specs.declared.logical.Logical.{Logical}
 use Rattle.pf_base.specs.declared.logical.Gathered.{Gathered}
 use Rattle.pf_base.specs.declared.logical.TextFault.{TextFault}

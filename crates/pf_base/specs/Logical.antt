@@ -1,7 +1,7 @@
 -- Logical lines (postconf(5) and DATABASE_README): a line that starts with space continues the one before it;
 -- empty lines, lines of space alone and lines whose first byte past space is # count for nothing, also inside one.
-use Rattle.std.specs.Prelude.{ℕ, ◌+◌, ◌++◌, ◌==◌, Bool, true, false, not, List, [], ◌∷◌, Option, None, Some, Result, Ok, Err, if◌then◌else◌}
-use Rattle.std.specs.List.{filter, fold}
+use Rattle.std.specs.Prelude.{ℕ, ◌+◌, ◌++◌, ◌==◌, Bool, true, false, List, [], ◌∷◌, Result, Ok, Err, if◌then◌else◌}
+use Rattle.std.specs.List.{fold}
 use Rattle.pf_base.specs.Lines.{lines, rest, without_return}
 use Rattle.pf_base.specs.Space.{is_space, without_leading_space}
 use Rattle.pf_base.specs.declared.logical.Logical.{Logical}

@@ -1,5 +1,5 @@
 -- What the forms in memory do: their calls are counted, and those whose numbers were listed fail.
-use Rattle.std.specs.Prelude.{◌≡◌, ◌≤◌, ℕ, ◌+◌, ◌-◌, ◌^◌, ◌==◌, Bool, true, false, List, [], ◌∷◌, max, min, length, slice_index}
+use Rattle.std.specs.Prelude.{◌≡◌, ◌≤◌, ℕ, ◌-◌, ◌^◌, ◌==◌, Bool, true, false, List, [], ◌∷◌, max, min, length, slice_index}
 use Rattle.std.specs.List.{list_any}
 use Rattle.pf_base.specs.Causes.{Rose, counted}
 use Rattle.pf_base.specs.declared.memory.Schedule.{Schedule}

@@ -2,7 +2,7 @@
 use Rattle.std.specs.Prelude.{ℕ, ◌+◌, Bool, List, [], ◌∷◌, if◌then◌else◌}
 use Rattle.std.specs.List.{list_any}
 use Rattle.pf_base.specs.Names.{same_name}
-use Rattle.pf_eval.specs.Nets.{Net, net_has}
+use Rattle.pf_eval.specs.Nets.{net_has}
 use Rattle.pf_eval.specs.declared.policy.PlainPolicy.{PlainPolicy}
 use Rattle.pf_eval.specs.declared.policy.PlainItem.{PlainItem}
 use Rattle.pf_eval.specs.declared.policy.PlainItem.TheVariants.{PermitMynetworks, RejectUnauthDestination}

@@ -64,7 +64,7 @@ fn item_verdict(policy: &PlainPolicy, client: u32, domain: &[u8], item: PlainIte
 pub fn judge_plain(policy: &PlainPolicy, client: u32, domain: &[u8]) -> PlainEnd
     ensures { result ≡ end_of policy.now client domain.now }
 {
-    let mut place = 1;
+    let mut place: u64 = 1;
     for item in policy.relay.as_slice() {
         match item_verdict(policy, client, domain, *item) {
             Verdict::Permits => return PlainEnd::Accept,

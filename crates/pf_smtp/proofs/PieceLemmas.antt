@@ -1,6 +1,5 @@
 -- A piece of the input is answered line by line.
 use Rattle.std.proofs.Common.{◌≡◌, ℕ, ◌+◌, ◌-◌, ◌≤◌, false, true, List, [], ◌∷◌, ◌++◌, length, take, min, refl, sym, ap, subst, ◌∙◌, arith, append_assoc, append-nil}
-use Rattle.std.specs.List.{flat_map}
 use Rattle.std.proofs.lemmas.List.{take_min}
 use Rattle.std.proofs.lemmas.List.Concat.{flat_map-append}
 use Rattle.std.proofs.Math.Seq.{take-append-add}
@@ -8,7 +7,7 @@ use Rattle.pf_base.specs.Lines.{lines, rest, onto_line, unless_line}
 use Rattle.pf_base.proofs.LineEnds.{rest_of_none}
 use Rattle.pf_smtp.specs.Gathering.{AnswersLine, AnswersPiece, ComesDownTo, line_given}
 use Rattle.pf_smtp.specs.Session.{stays, before, steps, given, part_behind, replies_text, log_text}
-use Rattle.pf_smtp.specs.Step.{Step, step}
+use Rattle.pf_smtp.specs.Step.{Step}
 use Rattle.pf_smtp.specs.Text.{text_of, log_line}
 use Rattle.pf_smtp.specs.declared.standing.Gathered.{Gathered}
 use Rattle.pf_smtp.specs.declared.standing.Standing.{Standing}

@@ -1,5 +1,5 @@
 -- Lemmas on steps: two in turn, a session that is over, and lines of which only the front was kept.
-use Rattle.std.proofs.Common.{◌≡◌, ℕ, ◌-◌, ◌<◌, ◌≤◌, Bool, true, false, List, [], ◌∷◌, ◌++◌, length, take, slice_index, refl, sym, ap, ◌∙◌, arith, append_assoc, inl, inr, if◌then◌else◌, ltb, eqb, min, length-take}
+use Rattle.std.proofs.Common.{◌≡◌, ℕ, ◌-◌, ◌<◌, ◌≤◌, true, false, List, [], ◌∷◌, ◌++◌, length, take, slice_index, refl, sym, ap, ◌∙◌, arith, append_assoc, inl, inr, if◌then◌else◌, eqb, length-take}
 use Rattle.std.proofs.lemmas.List.{take_all, length-take-le, take-take, take-append-le}
 use Rattle.std.proofs.lemmas.Bool.{lt-ltb, cases_lt}
 use Rattle.pf_base.specs.Lines.{lines, rest, onto_line, unless_line, without_return}

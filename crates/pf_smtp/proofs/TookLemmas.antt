@@ -1,15 +1,12 @@
 -- Two pieces give what both give.
-use Rattle.std.proofs.Common.{◌≡◌, ℕ, true, false, Bool, List, [], ◌++◌, take, refl, sym, ap, ◌∙◌}
+use Rattle.std.proofs.Common.{◌≡◌, ℕ, true, false, List, [], ◌++◌, take, refl, sym, ap, ◌∙◌}
 use Rattle.std.specs.Io.KnownBytes.{append_known}
-use Rattle.std.specs.List.{flat_map}
 use Rattle.std.proofs.lemmas.Bool.{false≢true}
-use Rattle.std.proofs.lemmas.List.Concat.{flat_map-append}
 use Rattle.pf_base.specs.Lines.{lines, rest, unless_line}
 use Rattle.pf_base.proofs.ToldLemmas.{append_known-nil, append_known-append}
 use Rattle.pf_smtp.proofs.PieceLemmas.{given_over, replies_text-before, log_text-before}
 use Rattle.pf_smtp.proofs.StepLemmas.{behind, given-append, part_behind-append}
-use Rattle.pf_smtp.specs.Session.{Told, Took, before, fresh, given, part_behind, replies_text, log_text, stays, start, steps}
-use Rattle.pf_smtp.specs.Step.{Step}
+use Rattle.pf_smtp.specs.Session.{Told, Took, before, fresh, given, part_behind, replies_text, log_text, stays, steps}
 use Rattle.pf_smtp.specs.declared.standing.Standing.{Standing}
 use Rattle.pf_smtp.specs.declared.state.Setup.{Setup}
 

@@ -1,5 +1,5 @@
 -- A session: its steps over the lines of the whole input, up to the line after which it is over.
-use Rattle.std.specs.Prelude.{◌≡◌, ℕ, ◌++◌, Bool, true, false, List, [], ◌∷◌, Option, None, Result, OnOk, IsErrOf, take, ◌≤◌, if◌then◌else◌}
+use Rattle.std.specs.Prelude.{◌≡◌, ℕ, ◌++◌, false, List, [], ◌∷◌, Option, None, Result, OnOk, IsErrOf, take, ◌≤◌, if◌then◌else◌}
 use Rattle.std.specs.Io.KnownBytes.{append_known}
 use Rattle.std.specs.List.{flat_map}
 use Rattle.pf_base.specs.Causes.{Rose}
@@ -9,7 +9,6 @@ use Rattle.pf_smtp.specs.Text.{text_of, log_line}
 use Rattle.pf_smtp.specs.declared.state.Setup.{Setup}
 use Rattle.pf_smtp.specs.declared.state.State.{State}
 use Rattle.pf_smtp.specs.declared.standing.Standing.{Standing}
-use Rattle.pf_smtp.specs.declared.standing.Gathered.{Gathered}
 use Rattle.pf_smtp.specs.declared.session.Going.{Going}
 use Rattle.pf_smtp.specs.declared.session.Going.TheVariants.{More, Over}
 use Rattle.pf_smtp.specs.declared.session.SessionFault.{SessionFault}

@@ -1,5 +1,5 @@
 -- Pieces that pass from the input to a session.
-use Rattle.std.proofs.Common.{◌≡◌, ℕ, ◌+◌, Bool, true, false, List, [], ◌++◌, Option, length, refl, sym, ap, ◌∙◌, arith, if◌then◌else◌, length-append}
+use Rattle.std.proofs.Common.{◌≡◌, ℕ, ◌+◌, Bool, true, false, List, [], ◌++◌, refl, sym, ap, ◌∙◌, arith, if◌then◌else◌, length-append}
 use Rattle.std.specs.Io.KnownBytes.{append_known, prepend_known}
 use Rattle.pf_base.proofs.ToldLemmas.{append_known-append, prepend_known-append, prepend_known-nil}
 use Rattle.pf_smtp.specs.Session.{fresh, given, session, start, steps, replies_text, log_text}

@@ -1,7 +1,7 @@
 -- Which main.cf is accepted, and what it says.
 use Rattle.std.specs.Prelude.{ℕ, ◌||◌, Bool, nat_lt, List, Option, Some, None, Result, Ok, Err, length, codes, if◌then◌else◌}
 use Rattle.std.specs.List.{list_all}
-use Rattle.std.specs.Option.{option_and_then, option_map}
+use Rattle.std.specs.Option.{option_map}
 use Rattle.std.specs.Str.{bytes_eq}
 use Rattle.pf_base.specs.declared.refused.ConfFault.{ConfFault}
 use Rattle.pf_maincf.specs.Settings.{Conf, conf_of, last_setting}

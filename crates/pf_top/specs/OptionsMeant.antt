@@ -1,5 +1,4 @@
 -- What the options of the code stand for.
-use Rattle.std.specs.Prelude.{ℕ, List}
 use Rattle.pf_top.specs.Words as words
 use Rattle.pf_top.specs.declared.words.Options.{Options}
 

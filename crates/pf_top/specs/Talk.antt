@@ -1,8 +1,8 @@
 -- A session over the input: what is taken, what is written, and how it ends.
-use Rattle.std.specs.Prelude.{◌≡◌, ℕ, ◌+◌, ◌<◌, ◌≤◌, ◌++◌, ◌^◌, true, false, List, Option, Result, OnOk, IsErrOf, length}
+use Rattle.std.specs.Prelude.{◌≡◌, ℕ, ◌<◌, ◌≤◌, ◌++◌, true, false, List, Option, Result, OnOk, IsErrOf, length}
 use Rattle.std.specs.Io.KnownBytes.{append_known, prepend_known, IsAtEnd}
 use Rattle.pf_base.specs.Causes.{Rose}
-use Rattle.pf_smtp.specs.Session.{Took, given, told, session, replies_text, log_text}
+use Rattle.pf_smtp.specs.Session.{Took, told, session, replies_text, log_text}
 use Rattle.pf_smtp.specs.Text.{greeting_of}
 use Rattle.pf_smtp.specs.declared.standing.Standing.{Standing}
 use Rattle.pf_smtp.specs.declared.state.Setup.{Setup}

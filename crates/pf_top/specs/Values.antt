@@ -1,6 +1,6 @@
 -- The values of the four parameters (postconf(5): myhostname, mydestination, mynetworks, smtpd_relay_restrictions).
-use Rattle.std.specs.Prelude.{ℕ, ◌==◌, ◌&&◌, ◌||◌, Bool, true, false, nat_lt, List, [], ◌∷◌, Option, Some, None, length, codes, if◌then◌else◌}
-use Rattle.std.specs.List.{filter, list_all, list_any, slice_split}
+use Rattle.std.specs.Prelude.{ℕ, ◌==◌, ◌||◌, Bool, true, false, nat_lt, List, [], ◌∷◌, Option, Some, None, length, codes, if◌then◌else◌}
+use Rattle.std.specs.List.{filter, list_any, slice_split}
 use Rattle.std.specs.Option.{option_and_then, option_map}
 use Rattle.pf_base.specs.Names.{is_host_name, same_name}
 use Rattle.pf_base.specs.Space.{is_space}

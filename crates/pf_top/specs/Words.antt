@@ -1,5 +1,5 @@
 -- The words of the one command: smtpd -p addr -m file.
-use Rattle.std.specs.Prelude.{ℕ, ◌==◌, ◌&&◌, Bool, not, nat_lt, List, [], ◌∷◌, Option, Some, None, length, slice_index, codes, if◌then◌else◌}
+use Rattle.std.specs.Prelude.{ℕ, ◌==◌, ◌&&◌, Bool, not, nat_lt, List, [], ◌∷◌, Option, None, length, slice_index, codes, if◌then◌else◌}
 use Rattle.std.specs.Option.{option_map}
 use Rattle.std.specs.Str.{bytes_eq}
 use Rattle.pf_top.specs.Address.{address_of}

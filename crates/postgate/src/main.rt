@@ -2,6 +2,8 @@
 #![tactic(auto)]
 
 mod real;
+#[cfg(test)]
+mod tests;
 
 use pf_base::{OuterFault, Sink};
 use pf_top::{run, sink_names};

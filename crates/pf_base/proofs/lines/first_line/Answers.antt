@@ -1,7 +1,7 @@
-use Rattle.std.proofs.Common.{◌≡◌, ℕ, ◌<◌, ◌≢◌, length, get_or, arith, refl}
+use Rattle.std.proofs.Common.{arith}
 use Rattle.std.proofs.lemmas.Bool.{eqb-true, eq-eqb}
 use Rattle.std.proofs.lemmas.List.{take_rest}
-use Rattle.pf_base.proofs.LineEnds.{HasNoFeed, IsFirstFeed, lines_no_feed, rest_no_feed, lines_at_first, lines_of_first, rest_at_first}
+use Rattle.pf_base.proofs.LineEnds.{IsFirstFeed, lines_no_feed, rest_no_feed, lines_at_first, lines_of_first, rest_at_first}
 use Rattle.pf_base.proofs.lines.first_line.Goals as goal
 
 pub returns-in-None-clause-none : goal.returns-in-None-clause-none

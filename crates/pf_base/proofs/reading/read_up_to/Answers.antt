@@ -1,4 +1,4 @@
-use Rattle.std.proofs.Common.{◌≡◌, ◌+◌, List, ◌++◌, length, take, drop, ℕ, Some, unwrap_or, [], sym, ap, ◌∙◌, arith}
+use Rattle.std.proofs.Common.{◌∙◌, arith}
 use Rattle.pf_base.proofs.Parts.{take_part}
 use Rattle.pf_base.proofs.reading.read_up_to.Goals as goal
 

@@ -1,5 +1,5 @@
-use Rattle.std.proofs.Common.{◌≡◌, ◌+◌, ◌≤◌, length, take, length-take, sym, ap, ◌∙◌, refl, arith}
-use Rattle.pf_top.specs.Talk.{budget, world}
+use Rattle.std.proofs.Common.{length-take, ap, ◌∙◌, refl, arith}
+use Rattle.pf_top.specs.Talk.{world}
 use Rattle.pf_top.proofs.TalkLemmas.{passed_none, passed_more, count_more}
 use Rattle.pf_top.proofs.talk.serve.Goals as goal
 

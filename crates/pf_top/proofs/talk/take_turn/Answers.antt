@@ -1,4 +1,4 @@
-use Rattle.std.proofs.Common.{◌≡◌, sym, ◌∙◌, take}
+use Rattle.std.proofs.Common.{sym, ◌∙◌, take}
 use Rattle.pf_top.proofs.TalkLemmas.{going_more, going_over}
 use Rattle.pf_top.proofs.talk.take_turn.Goals as goal
 

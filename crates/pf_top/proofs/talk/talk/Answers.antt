@@ -1,4 +1,4 @@
-use Rattle.std.proofs.Common.{◌≡◌, List, Option, ℕ, sym, ap, ◌∙◌}
+use Rattle.std.proofs.Common.{List, Option, ℕ, ap, ◌∙◌}
 use Rattle.std.proofs.lemmas.Result.{IfOk-weaker}
 use Rattle.pf_top.specs.Opening.{setup_of}
 use Rattle.pf_top.specs.Talk.{world}

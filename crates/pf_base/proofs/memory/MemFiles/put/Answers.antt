@@ -1,4 +1,4 @@
-use Rattle.std.proofs.Common.{sym, ap, ◌∙◌}
+use Rattle.std.proofs.Common.{sym}
 use Rattle.pf_base.proofs.FileListLemmas.{with_file_at, with_file_new}
 use Rattle.pf_base.proofs.memory.MemFiles.put.Goals as goal
 

@@ -1,4 +1,4 @@
-use Rattle.std.proofs.Common.{◌≡◌, length, drop, length-drop, Some, ap, arith}
+use Rattle.std.proofs.Common.{Some, ap, arith}
 use Rattle.std.proofs.lemmas.List.{take_rest, nil_from_length}
 use Rattle.pf_base.proofs.Parts.{copied_front}
 use Rattle.pf_base.proofs.memory.MemSourceSource.read.Goals as goal

@@ -1,7 +1,7 @@
-use Rattle.std.proofs.Common.{◌≡◌, ◌≢◌, ℕ, Ok, Err, sym, ap, ◌∙◌, refl}
+use Rattle.std.proofs.Common.{◌≢◌, ℕ, sym}
 use Rattle.std.proofs.lemmas.Result.{err_from_is_err_and}
 use Rattle.pf_base.specs.declared.logical.TextFault.TheVariants.{Continuation, NoMemory}
-use Rattle.pf_maincf.specs.Settings.{conf_of, conf_with, settings_of_lines}
+use Rattle.pf_maincf.specs.Settings.{conf_of}
 use Rattle.pf_maincf.proofs.maincf.MainCf.read.Goals as goal
 
 continuation_is_not_memory : (line : ℕ) → Continuation line ≢ NoMemory

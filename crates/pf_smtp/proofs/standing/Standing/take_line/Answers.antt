@@ -1,4 +1,3 @@
-use Rattle.std.proofs.Common.{sym, ap, ◌∙◌}
 use Rattle.pf_smtp.proofs.StepLemmas.{step_kept}
 use Rattle.pf_smtp.proofs.standing.Standing.take_line.Goals as goal
 
