@@ -1,5 +1,5 @@
 //! Lines of a message's record.
 
 /// A line of a message's record. No verb of today gives one.
-#[derive(Debug, Drop)]
+#[derive(Drop)]
 pub enum RecordLine {}

@@ -23,7 +23,7 @@ pub struct State {
 }
 
 /// What a line gives.
-#[derive(Debug, Drop)]
+#[derive(Drop)]
 pub(crate) struct Answer {
     pub(crate) replies: List<Reply>,
     pub(crate) records: List<RecordLine>,
