@@ -6,6 +6,7 @@ pub mod Logical
 pub mod Memory
 pub mod MemoryForms
 pub mod Names
+pub mod Refusal
 pub mod Space
 pub mod Told
 pub mod Unless

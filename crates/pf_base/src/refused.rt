@@ -1,5 +1,11 @@
 //! Why a configuration or a table is refused, and where.
+ghost use Rattle.std.specs.Prelude.{◌≡◌, ◌++◌, map, IfOk, OnOk};
+ghost use Rattle.pf_base.specs.Refusal as refusal;
+
 use crate::bytes::Bytes;
+use crate::fault::NoMemory;
+use crate::numbers::decimal;
+use std::alloc::Global;
 
 /// The cause of a refusal, in the order in which the codes are printed.
 #[derive(Clone, Copy, Debug, PartialEq, Eq)]
@@ -52,4 +58,77 @@ pub struct Refused {
 pub enum ConfFault {
     Refused(Refused),
     NoMemory,
+}
+
+#[tactic(auto, unfolding(crate::specs::Refusal::cause_text))]
+fn cause_text(cause: Cause) -> &'static [u8]
+    ensures { result.now ≡ refusal.cause_text cause }
+{
+    match cause {
+        Cause::C1 => b"C1 continuation of nothing",
+        Cause::C2 => b"C2 no equals sign",
+        Cause::C3 => b"C3 bad name",
+        Cause::C4 => b"C4 expansion too deep",
+        Cause::C5 => b"C5 bad dollar form",
+        Cause::C6 => b"C6 bad value",
+        Cause::C7 => b"C7 unknown restriction",
+        Cause::C8 => b"C8 bad argument",
+        Cause::C9 => b"C9 bad table",
+        Cause::C10 => b"C10 no such file",
+        Cause::C11 => b"C11 table text refused",
+        Cause::C12 => b"C12 no closing restriction",
+        Cause::C13 => b"C13 class names itself",
+        Cause::C14 => b"C14 setting outside the profile",
+        Cause::C15 => b"C15 file too large",
+        Cause::C16 => b"C16 expansion too long",
+    }
+}
+
+// Adds bytes, control bytes as question marks.
+fn print_name(name: &[u8], text: &mut Bytes) -> Result<(), NoMemory>
+    ensures { OnOk result (text.new ≡ text.old ++ map refusal.printable name.now) }
+{
+    for b in name {
+        let shown = if *b < 32 || *b == 127 { b'?' } else { *b };
+        text.push(shown)?;
+    }
+    Ok(())
+}
+
+// What a refusal names, behind a colon; nothing where it names nothing.
+fn name_part(alloc: Global, name: &[u8]) -> Result<Bytes, NoMemory>
+    ensures { IfOk result (λ part. part ≡ refusal.name_part name.now) }
+{
+    let mut part = Bytes::new(alloc);
+    if name.is_empty() {
+        return Ok(part);
+    }
+    part.extend(b": ")?;
+    print_name(name, &mut part)?;
+    Ok(part)
+}
+
+impl Refused {
+    /// The line of the refusal, with its line feed: `postgate: FILE:LINE: CODE TEXT: NAME`, without the colon and NAME
+    /// where it names nothing. Control bytes of NAME are printed as question marks.
+    #[tactic(auto, unfolding(crate::specs::Refusal::refusal_line))]
+    pub fn line(&self, alloc: Global) -> Result<Bytes, NoMemory>
+        ensures { IfOk result (λ line. line ≡ refusal.refusal_line self.now) }
+    {
+        let number = decimal(alloc, self.line)?;
+        let cause = Bytes::from_slice(alloc, cause_text(self.cause))?;
+        let name = name_part(alloc, self.name.as_slice())?;
+        let mut line = Bytes::new(alloc);
+        line.extend_all(&[
+            b"postgate: ",
+            self.file.as_slice(),
+            b":",
+            number.as_bytes(),
+            b": ",
+            cause.as_slice(),
+            name.as_slice(),
+            b"\n",
+        ])?;
+        Ok(line)
+    }
 }

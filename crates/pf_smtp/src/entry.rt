@@ -1,11 +1,9 @@
 //! The decision log: a line for each recipient that was judged.
-ghost use Rattle.std.specs.Prelude.{◌≡◌, ◌++◌, IfOk, OnOk};
-ghost use Rattle.std.specs.Fmt.{decimal};
-ghost use Rattle.std.specs.String.{string_bytes};
+ghost use Rattle.std.specs.Prelude.{◌≡◌, ◌++◌, OnOk};
 ghost use Rattle.pf_smtp.specs.Text as text;
 
 use crate::path::Address;
-use pf_base::{Bytes, NoMemory};
+use pf_base::{Bytes, NoMemory, decimal};
 use std::alloc::Global;
 
 /// What was decided of a recipient, with the number of the command's line, from 1. A denial names the place, from 1, of
@@ -21,13 +19,6 @@ pub enum Entry {
         recipient: Address,
         place: u64,
     },
-}
-
-fn decimal(alloc: Global, n: u64) -> Result<String, NoMemory>
-    ensures { IfOk result (λ digits. string_bytes digits ≡ decimal n) }
-{
-    let digits = format!(in alloc; "{n}")?;
-    Ok(digits)
 }
 
 #[tactic(auto, unfolding(crate::specs::Text::accepted_line))]

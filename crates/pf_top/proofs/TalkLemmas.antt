@@ -1,6 +1,6 @@
 -- Pieces that pass from the input to a session.
-use Rattle.std.proofs.Common.{◌≡◌, ℕ, ◌+◌, Bool, true, false, List, [], ◌++◌, refl, sym, ap, ◌∙◌, arith, if◌then◌else◌, length-append}
-use Rattle.std.specs.Io.KnownBytes.{append_known, prepend_known}
+use Rattle.std.proofs.Common.{◌≡◌, ℕ, ◌+◌, ◌<◌, Bool, true, false, List, [], ◌++◌, refl, sym, ap, ◌∙◌, arith, if◌then◌else◌, length-append}
+use Rattle.std.specs.Io.KnownBytes.{append_known, prepend_known, IsAtEnd}
 use Rattle.pf_base.proofs.ToldLemmas.{append_known-append, prepend_known-append, prepend_known-nil}
 use Rattle.pf_smtp.specs.Session.{fresh, given, session, start, steps, replies_text, log_text}
 use Rattle.pf_smtp.specs.Text.{greeting_of}
@@ -10,7 +10,7 @@ use Rattle.pf_smtp.specs.declared.state.Setup.{Setup}
 use Rattle.pf_smtp.proofs.StepLemmas.{onto_line_nothing}
 use Rattle.pf_smtp.proofs.TookLemmas.{took_none, took_more}
 use Rattle.pf_base.specs.Lines.{lines}
-use Rattle.pf_top.specs.Talk.{World, Passed, PassedCount, Serves, EndsAs, SessionEndsAs, Talks, TalksUntil}
+use Rattle.pf_top.specs.Talk.{World, budget, Passed, PassedCount, Serves, EndsAs, SessionEndsAs, Talks, TalksUntil}
 use Rattle.pf_top.specs.declared.talk.Ended.{Ended}
 use Rattle.pf_top.specs.declared.talk.Ended.TheVariants as ended
 
@@ -42,6 +42,10 @@ count_more {m = m} {n = n} p q = record {
   passed = passed_more p.passed q.passed;
   is = length-append p.passed.taken q.passed.taken ∙ omega (arith, p.is, q.is);
 }
+
+-- nothing is left before the budget was taken
+pub ends_here : {a b now : World} {s t u : Standing} {n : ℕ} → now ≡ b → u ≡ t → IsAtEnd b.input → PassedCount a b s t n → n < budget → Serves a now s u ended.AtEnd
+ends_here same standing at p less = rw (same, standing) (record { passed = p.passed; ends = (at, omega (arith, p.is, less)) })
 
 -- what a session gives that stands at its start is what the whole session gives
 pub given_fresh : (setup : Setup) (taken : List ℕ) → given (fresh setup) taken ≡ session setup taken

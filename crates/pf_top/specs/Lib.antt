@@ -1,6 +1,8 @@
 pub mod Address
+pub mod Opened
 pub mod Opening
 pub mod OptionsMeant
+pub mod Refusals
 pub mod Run
 pub mod Talk
 pub mod Values

@@ -51,7 +51,7 @@ budget = 4294967296
 
 -- how the bytes of a session came to an end
 abbrev pub EndsAs : World → List ℕ → Standing → Ended → Type 0
-EndsAs now taken new ended.AtEnd = IsAtEnd now.input
+EndsAs now taken new ended.AtEnd = IsAtEnd now.input × (length taken < budget)
 EndsAs now taken new ended.AtOver = new.state.over ≡ true
 EndsAs now taken new ended.AtBudget = (length taken ≡ budget) × (new.state.over ≡ false)
 
@@ -74,9 +74,9 @@ pub record Talks (setup : Setup) (before now : World) : Type 0 where
   pub out : now.out ≡ append_known before.out (replies_to setup taken)
   pub log : now.log ≡ append_known before.log (log_of setup taken)
 
--- the session of these bytes is over, or their number is the budget, or nothing is left
+-- nothing is left, before the budget was taken; the session of these bytes is over; or their number is the budget
 abbrev pub SessionEndsAs : Setup → World → List ℕ → Ended → Type 0
-SessionEndsAs setup now taken ended.AtEnd = IsAtEnd now.input
+SessionEndsAs setup now taken ended.AtEnd = IsAtEnd now.input × (length taken < budget)
 SessionEndsAs setup now taken ended.AtOver = (session setup taken).next.over ≡ true
 SessionEndsAs setup now taken ended.AtBudget = (length taken ≡ budget) × ((session setup taken).next.over ≡ false)
 

@@ -4,6 +4,7 @@
 mod address;
 mod items;
 mod opening;
+mod refusal;
 mod talk;
 mod top;
 mod values;

@@ -1,18 +1,19 @@
 //! The top call.
-ghost use Rattle.std.specs.Prelude.{◌≡◌, ◌≢◌, ◌≤◌, ◌⊎◌, List as Seq, None, Some, Ok, Err, true, map, IfOk, IsErrOf, OnOk};
+ghost use Rattle.std.specs.Prelude.{◌≡◌, ◌≢◌, ◌≤◌, ◌⊎◌, List as Seq, None, Some, Ok, Err, true, map, IfOk, OnOk, is_some};
 ghost use Rattle.std.specs.Io.KnownBytes.{append_known};
-ghost use Rattle.std.specs.Option.{option_map};
 ghost use Rattle.std.specs.String.{string_bytes};
 ghost use Rattle.pf_base.specs.Causes.{Rose};
+ghost use Rattle.pf_base.specs.Refusal.{refusal_line};
 ghost use Rattle.pf_base.specs.declared.pair.Pair.{Pair};
-ghost use Rattle.pf_top.specs.Run.{BrokenOff, Refuses, SaysUsage, Served, conf_file, is_status, logged, read_failed_line, refused_line, usage_line};
+ghost use Rattle.pf_top.specs.Opened.{IsOpened};
+ghost use Rattle.pf_top.specs.Run.{BrokenOff, Completes, NoneRose, Refuses, SaysUsage, Served, conf_file, conf_refusal, faults, is_status, logged, read_failed_line, usage_line};
 ghost use Rattle.pf_top.specs.Talk.{world};
 ghost use Rattle.pf_top.specs.Words.{options_of};
 
-use crate::opening::{MAIN_CF, Opening, text_opened};
+use crate::opening::{MAIN_CF, Opened, refused_as, text_opened};
 use crate::talk::{Ended, TalkFault, talk};
 use crate::words::options_of;
-use pf_base::{Files, NoMemory, OuterFault, ReadFault, Sink, Source, read_all};
+use pf_base::{Cause, Files, NoMemory, OuterFault, ReadFault, Refused, Sink, Source, read_all};
 use std::alloc::Global;
 
 // The statuses of a run.
@@ -41,20 +42,23 @@ enum OpenFault {
     NoMemory,
 }
 
-// What main.cf says; None where it is not accepted.
-fn open_conf<F: Files>(alloc: Global, files: &mut F) -> Result<Option<Opening>, OpenFault>
-    ensures told { (all : Seq Pair) → F.content files.old ≡ Some all → IfOk result (λ opened. opened ≡ conf_file all) }
+// What became of main.cf, where the files could be read.
+#[tactic(auto, unfolding(crate::specs::Opening::file_opened, crate::specs::Refusals::file_refusal))]
+fn open_conf<F: Files>(alloc: Global, files: &mut F) -> Result<Opened, OpenFault>
+    ensures told { (all : Seq Pair) → F.content files.old ≡ Some all
+        → IfOk result (IsOpened (conf_refusal all) (conf_file all)) }
     ensures same { F.content files.new ≡ F.content files.old }
     ensures failed { result ≡ Err OpenFault.Failed → Rose (F.faults files.old) (F.faults files.new) }
     ensures kept { OnOk result (F.faults files.new ≡ F.faults files.old) }
 {
-    let text = match read_all(alloc, files, MAIN_CF) {
-        Ok(Some(text)) => text,
-        Ok(None) | Err(ReadFault::TooLarge) => return Ok(None),
+    let opened = match read_all(alloc, files, MAIN_CF) {
+        Ok(None) => refused_as(alloc, Cause::C10),
+        Err(ReadFault::TooLarge) => refused_as(alloc, Cause::C15),
+        Ok(Some(text)) => text_opened(alloc, text.as_slice()),
         Err(ReadFault::Failed) => return Err(OpenFault::Failed),
         Err(ReadFault::NoMemory) => return Err(OpenFault::NoMemory),
     };
-    match text_opened(alloc, text.as_slice()) {
+    match opened {
         Ok(opened) => Ok(opened),
         Err(NoMemory) => Err(OpenFault::NoMemory),
     }
@@ -74,14 +78,16 @@ fn say_usage<J: Sink>(log: &mut J) -> u8
     }
 }
 
-// Says that main.cf is not accepted.
-#[tactic(auto, unfolding(crate::specs::Run::refused_line))]
-fn say_refused<J: Sink>(log: &mut J) -> u8
-    ensures said { result ≡ 3 → J.written log.new ≡ append_known (J.written log.old) refused_line }
+// Says why main.cf is not accepted.
+fn say_refused<J: Sink>(alloc: Global, refusal: &Refused, log: &mut J) -> u8
+    ensures said { result ≡ 3 → J.written log.new ≡ append_known (J.written log.old) (refusal_line refusal.now) }
     ensures failed { result ≡ 7 → Rose (J.faults log.old) (J.faults log.new) }
     ensures status { (result ≡ 3) ⊎ (result ≡ 7) ⊎ (result ≡ 9) }
 {
-    match log.write(b"postgate: main.cf:0: C14 setting outside the profile\n") {
+    let Ok(line) = refusal.line(alloc) else {
+        return NO_MEMORY;
+    };
+    match log.write(line.as_slice()) {
         Ok(()) => REFUSED,
         Err(OuterFault::Failed) => LOG_FAILED,
         Err(OuterFault::NoMemory) => NO_MEMORY,
@@ -128,7 +134,7 @@ pub fn run<S: Source, O: Sink, M: Sink, J: Sink, F: Files>(
         (world (S.left input.old) (O.written out.old) (J.written log.old))
         (world (S.left input.new) (O.written out.new) (J.written log.new)) }
     ensures malformed { options_of (map string_bytes words.now) ≡ None → (result ≡ 2) ⊎ (result ≡ 7) ⊎ (result ≡ 9) }
-    ensures refused { result ≡ 3 → Refuses (F.content files.old)
+    ensures refused { result ≡ 3 → Refuses (map string_bytes words.now) (F.content files.old)
         (world (S.left input.old) (O.written out.old) (J.written log.old))
         (world (S.left input.new) (O.written out.new) (J.written log.new)) }
     ensures unread { result ≡ 8 → world (S.left input.new) (O.written out.new) (J.written log.new)
@@ -140,6 +146,10 @@ pub fn run<S: Source, O: Sink, M: Sink, J: Sink, F: Files>(
     ensures log_failed { result ≡ 7 → Rose (J.faults log.old) (J.faults log.new) }
     ensures files_failed { result ≡ 8 → Rose (F.faults files.old) (F.faults files.new) }
     ensures known { is_status result ≡ true }
+    ensures complete { (all : Seq Pair) → F.content files.old ≡ Some all → is_some (options_of (map string_bytes words.now)) ≡ true
+        → NoneRose (faults (S.faults input.old) (O.faults out.old) (J.faults log.old) (F.faults files.old))
+        (faults (S.faults input.new) (O.faults out.new) (J.faults log.new) (F.faults files.new))
+        → Completes (conf_refusal all) result }
 
     // What stays as it was.
     ensures mail { M.written mail.new ≡ M.written mail.old }
@@ -149,8 +159,8 @@ pub fn run<S: Source, O: Sink, M: Sink, J: Sink, F: Files>(
         return say_usage(log);
     };
     let opening = match open_conf(alloc, files) {
-        Ok(Some(opening)) => opening,
-        Ok(None) => return say_refused(log),
+        Ok(Opened::Accepted(opening)) => opening,
+        Ok(Opened::Refused(refusal)) => return say_refused(alloc, &refusal, log),
         Err(OpenFault::Failed) => return say_read_failed(log),
         Err(OpenFault::NoMemory) => return NO_MEMORY,
     };

@@ -50,7 +50,7 @@ fn all_nets(alloc: Global, items: &[Bytes]) -> Result<Option<List<PlainNet>>, No
 }
 
 #[tactic(auto, unfolding(crate::specs::Values::restriction_of))]
-fn restriction_of(word: &[u8]) -> Option<PlainItem>
+pub(crate) fn restriction_of(word: &[u8]) -> Option<PlainItem>
     ensures { result ≡ values.restriction_of word.now }
 {
     if same_name(word, b"permit_mynetworks") {

@@ -2,4 +2,8 @@
 #![tactic(auto)]
 
 #[cfg(test)]
+mod conf_tests;
+#[cfg(test)]
+mod fault_tests;
+#[cfg(test)]
 mod tests;

@@ -1,6 +1,6 @@
 use Rattle.std.proofs.Common.{length-take, ap, ◌∙◌, refl, arith}
 use Rattle.pf_top.specs.Talk.{world}
-use Rattle.pf_top.proofs.TalkLemmas.{passed_none, passed_more, count_more}
+use Rattle.pf_top.proofs.TalkLemmas.{ends_here, passed_none, passed_more, count_more}
 use Rattle.pf_top.proofs.talk.serve.Goals as goal
 
 pub turns-init : goal.turns-init
@@ -37,3 +37,8 @@ pub returns-clause-serves : goal.returns-clause-serves
 returns-clause-serves g c =
     let i = c.turns.invariant in
     record { passed = i.passed.passed; ends = (i.passed.is ∙ omega (arith, i.within, c.turns-test.false), i.goes_on) }
+
+pub returns-in-End-clause-serves : goal.returns-in-End-clause-serves
+returns-in-End-clause-serves g c =
+    let turn = rw c.in-End.is at c.in_ok-take_turn.ensures.turn in
+    ends_here turn.0 turn.1 turn.2 c.turns.invariant.passed c.turns-test.true
