@@ -1,4 +1,4 @@
--- How a refusal is printed.
+-- How a refusal is printed. The codes and their texts are postgate's own, by no standard.
 use Rattle.std.specs.Prelude.{ℕ, ◌++◌, ◌==◌, ◌||◌, nat_lt, List, [], ◌∷◌, map, codes, if◌then◌else◌}
 use Rattle.std.specs.Fmt.{decimal}
 use Rattle.std.specs.List.{flat_map}

@@ -1,4 +1,4 @@
--- Networks of IPv4 addresses.
+-- Networks of IPv4 addresses (cidr_table(5): an address is in a network where the bits of the prefix are the same).
 use Rattle.std.specs.Prelude.{ℕ, ◌-◌, ◌/◌, ◌^◌, ◌==◌, Bool}
 
 -- an address, and how many of its first bits count

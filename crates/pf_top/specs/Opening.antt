@@ -1,4 +1,4 @@
--- Which main.cf is accepted, and what it says.
+-- Which main.cf is accepted, and what it says (postconf(5), and docs/PROFILE.md for the four parameters that are built).
 use Rattle.std.specs.Prelude.{ℕ, ◌||◌, Bool, List, Option, Some, None, Result, Ok, Err, codes, option_and_then}
 use Rattle.std.specs.Str.{bytes_eq}
 use Rattle.pf_base.specs.declared.refused.ConfFault.{ConfFault}

@@ -1,4 +1,5 @@
--- Which main.cf is refused, and as which: the first that applies of the checks, in their order.
+-- Which main.cf is refused, and as which: the first that applies of the checks, in their order. Codes and order are postgate's own;
+-- that a relay list has to hold a restriction that closes it is postconf(5), smtpd_relay_restrictions; reject_unauth_destination is the one built.
 use Rattle.std.specs.Prelude.{ℕ, nat_lt, List, [], ◌∷◌, Option, None, Some, Result, Ok, Err, is_some, is_none, length, codes, if◌then◌else◌}
 use Rattle.std.specs.Cmp.Lexicographic.{slice_cmp}
 use Rattle.std.specs.List.{find}

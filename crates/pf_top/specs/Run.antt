@@ -1,4 +1,4 @@
--- What a run leaves, for each of its statuses.
+-- What a run leaves, for each of its statuses, which are postgate's own.
 use Rattle.std.specs.Prelude.{◌≡◌, ◌⊎◌, ℕ, ◌==◌, ◌||◌, Bool, List, Option, Some, None, codes}
 use Rattle.std.specs.Io.KnownBytes.{append_known}
 use Rattle.pf_base.specs.Causes.{Rose}
