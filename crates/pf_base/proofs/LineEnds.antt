@@ -1,5 +1,6 @@
 -- Lemmas on lines and what stands behind the last line feed.
-use Rattle.std.proofs.Common.{◌≡◌, ◌≢◌, ℕ, true, false, if◌then◌else◌, suc, ◌+◌, ◌<◌, List, [], ◌∷◌, ◌++◌, length, get_or, take, drop, refl, sym, ap, ◌∙◌, arith, eqb}
+use Rattle.std.proofs.Common.{◌≡◌, ◌≢◌, ℕ, true, false, if◌then◌else◌, suc, ◌+◌, ◌<◌, List, [], ◌∷◌, ◌++◌, length, get_or, take, drop, refl, sym, ap, ◌∙◌, arith, eqb, cond}
+use Rattle.std.specs.List.{onto_first, slice_split}
 use Rattle.std.proofs.lemmas.Bool.{ne_eqb}
 use Rattle.std.proofs.lemmas.List.{length-take-le, get_or-take, drop_more, take-append-drop}
 use Rattle.pf_base.specs.Lines.{lines, rest, onto_line, unless_line}
@@ -109,4 +110,21 @@ rest-append (x ∷ xs) ys =
     ≡ unless_line (lines ys) ((if b then rest xs else unless_line (lines xs) (x ∷ xs) (rest xs)) ++ ys) (rest ys)) [
       | true ↦ rest-append xs ys
       | false ↦ rw (lines-append xs ys, rest-append xs ys) (rest_seam x xs ys (lines xs) (rest xs) (lines ys) (rest ys))
+    ]
+
+-- the line that a byte stands before, and what is behind the last line feed
+onto_split : (b : ℕ) (bytes : List ℕ) (L : List (List ℕ)) → lines bytes ≡ L
+    → onto_first b (L ++ (rest bytes ∷ [])) ≡ onto_line (b ∷ []) L ++ (unless_line L (b ∷ bytes) (rest bytes) ∷ [])
+onto_split b bytes [] none = ap (λ r. (b ∷ r) ∷ []) (rest_of_none bytes none)
+onto_split b bytes (line ∷ L) is = refl
+
+-- the lines, and what stands behind the last line feed, are the parts that the line feeds part
+pub split_at_feeds : (bytes : List ℕ) → slice_split (λ b. eqb b 10) bytes ≡ lines bytes ++ (rest bytes ∷ [])
+split_at_feeds [] = refl
+split_at_feeds (b ∷ bytes) =
+    let behind = split_at_feeds bytes in
+    elim (eqb b 10) as (λ t. cond t ([] ∷ slice_split (λ b. eqb b 10) bytes) (onto_first b (slice_split (λ b. eqb b 10) bytes))
+    ≡ (if t then [] ∷ lines bytes else onto_line (b ∷ []) (lines bytes)) ++ ((if t then rest bytes else unless_line (lines bytes) (b ∷ bytes) (rest bytes)) ∷ [])) [
+      | true ↦ ap (λ parts. [] ∷ parts) behind
+      | false ↦ ap (onto_first b) behind ∙ onto_split b bytes (lines bytes) refl
     ]

@@ -1,4 +1,5 @@
 -- Why a call answers a fault: only where the count of faults of the object that was handed in rose in that call.
+-- Words of contracts, by no standard.
 use Rattle.std.specs.Prelude.{◌≡◌, ◌-◌, ℕ, ◌+◌, ◌^◌, ◌≤◌, min, Result, OnOk, OnErr, IsErrOf}
 use Rattle.pf_base.specs.declared.fault.OuterFault.{OuterFault}
 use Rattle.pf_base.specs.declared.fault.OuterFault.TheVariants.{Failed, NoMemory}
@@ -13,20 +14,24 @@ counted n = min (n + 1) (2 ^ 64 - 1)
 abbrev pub Rose : ℕ → ℕ → Type 0
 Rose before now = counted before ≤ now
 
--- the cause of a fault that is the only one: an answer without it passed no fault over
+-- a count rose by at least so many
+abbrev pub RoseBy : ℕ → ℕ → ℕ → Type 0
+RoseBy n before now = min (before + n) (2 ^ 64 - 1) ≤ now
+
+-- a call with one fault: it came only where the count rose, and where the call was answered the count stayed
 pub record HasCause {T E : Type 0} (before now : ℕ) (result : Result T E) : Type 0 where
   pub later : before ≤ now
   pub failed : OnErr result (Rose before now)
   pub kept : OnOk result (now ≡ before)
 
--- the cause of a fault beside want of memory, which raises no count
+-- a call that may also want memory, which raises no count
 pub record HasOuterCause {T : Type 0} (before now : ℕ) (result : Result T OuterFault) : Type 0 where
   pub later : before ≤ now
   pub failed : IsErrOf result Failed → Rose before now
   pub memory : IsErrOf result NoMemory → now ≡ before
   pub kept : OnOk result (now ≡ before)
 
--- the cause of a fault of reading a whole file
+-- a call that reads a whole file
 pub record HasReadCause {T : Type 0} (before now : ℕ) (result : Result T ReadFault) : Type 0 where
   pub later : before ≤ now
   pub failed : IsErrOf result ReadFailed → Rose before now

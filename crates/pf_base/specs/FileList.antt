@@ -1,4 +1,4 @@
--- Files as a list of names with their bytes: what is read of them and what a replacement leaves.
+-- Files as a list of names with their bytes: what is read of them and what a replacement leaves. By no standard.
 use Rattle.std.specs.Prelude.{◌≡◌, ◌<◌, ◌≤◌, ℕ, List, [], ◌∷◌, ◌++◌, Option, None, Some, Result, Ok, Err, OnErr, OnOk, nat_lt, length, take, drop, ◌⊎◌, if◌then◌else◌}
 use Rattle.std.specs.Option.{option_map}
 use Rattle.std.specs.List.{find}
@@ -23,18 +23,16 @@ pub record ReadsFrom (bytes : List ℕ) (at n : ℕ) (buf : List ℕ) : Type 0 w
   pub same : take n buf ≡ take n (drop at bytes)
   pub some : n ≡ 0 → 0 < length buf → drop at bytes ≡ []
 
--- the next n bytes of the file were added to those before them; none at the end alone
-pub record AddsPart (file old new : List ℕ) (n : ℕ) : Type 0 where
-  pub new_is : new ≡ old ++ take n (drop (length old) file)
-  pub within : n ≤ length (drop (length old) file)
-  pub some : n ≡ 0 → drop (length old) file ≡ []
-
 -- a refused replacement leaves the files as before, or as after it
 pub record Replaces {T E : Type 0} (old new : Option (List Pair)) (result : Result T E) (name bytes : List ℕ) : Type 0 where
   pub done : OnOk result (new ≡ option_map (λ files. with_file files name bytes) old)
   pub refused : OnErr result ((new ≡ old) ⊎ (new ≡ option_map (λ files. with_file files name bytes) old))
 
--- a whole file as it is read: nothing where it is absent, and none above 64 MiB
+-- the most bytes of a file that is read whole: 64 MiB, which is postgate's own limit
+abbrev pub file_limit : ℕ
+file_limit = 67108864
+
+-- a whole file as it is read: None where there is no file; one above the limit is a fault
 abbrev pub whole_file : Option (List ℕ) → Result (Option (List ℕ)) ReadFault
 whole_file None = Ok None
-whole_file (Some bytes) = if nat_lt 67108864 (length bytes) then Err TooLarge else Ok (Some bytes)
+whole_file (Some bytes) = if nat_lt file_limit (length bytes) then Err TooLarge else Ok (Some bytes)

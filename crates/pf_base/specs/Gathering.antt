@@ -1,4 +1,4 @@
--- What one more line does to the logical lines so far.
+-- What one more line does to the logical lines so far. Words of the code's contracts, between a loop over lines and `logical_lines_of`.
 use Rattle.std.specs.Prelude.{◌≡◌, ◌++◌, List, [], ◌∷◌, Option, None, Some, Result, Err, MatchResult}
 use Rattle.std.specs.List.{fold}
 use Rattle.pf_base.specs.Logical.{Physical, Grouped, continued, unless_ignored, outcome}
@@ -12,6 +12,7 @@ abbrev pub followed_by : List Logical → Option Logical → Grouped → Grouped
 followed_by closed None g = record { leading = g.leading; logical = closed ++ g.logical }
 followed_by closed (Some last) g = record { leading = []; logical = closed ++ (fold continued last g.leading ∷ g.logical) }
 
+-- the lines so far, and then those behind them
 abbrev pub then_grouped : Gathered → Grouped → Grouped
 then_grouped gathered g = followed_by gathered.closed gathered.last g
 

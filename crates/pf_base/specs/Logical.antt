@@ -1,5 +1,5 @@
--- Logical lines (postconf(5) and DATABASE_README): a line that starts with space continues the one before it;
--- empty lines, lines of space alone and lines whose first byte past space is # count for nothing, also inside one.
+-- Logical lines (postconf(5), main.cf format; DATABASE_README): a line that starts with space continues the one before it; empty lines,
+-- lines of space alone and lines whose first byte past space is # count for nothing. That they may stand inside a logical line is postgate's own.
 use Rattle.std.specs.Prelude.{ℕ, ◌+◌, ◌++◌, ◌==◌, Bool, true, false, List, [], ◌∷◌, Result, Ok, Err, if◌then◌else◌}
 use Rattle.std.specs.List.{fold}
 use Rattle.pf_base.specs.Lines.{lines, rest, without_return}
@@ -13,6 +13,7 @@ pub record Physical : Type 0 where
   pub number : ℕ
   pub text : List ℕ
 
+-- lines with their numbers, without the carriage return before a line end
 abbrev pub numbered : ℕ → List (List ℕ) → List Physical
 numbered n [] = []
 numbered n (line ∷ lines) = record { number = n; text = without_return line } ∷ numbered (n + 1) lines
@@ -21,6 +22,7 @@ numbered n (line ∷ lines) = record { number = n; text = without_return line } 
 abbrev pub physical_lines : List ℕ → List Physical
 physical_lines text = numbered 1 (lines text ++ rest text ∷ [])
 
+-- nothing is left of the line, or a comment
 abbrev pub is_empty_or_comment : List ℕ → Bool
 is_empty_or_comment [] = true
 is_empty_or_comment (b ∷ bytes) = b == 35
@@ -29,14 +31,16 @@ is_empty_or_comment (b ∷ bytes) = b == 35
 abbrev pub is_ignored : List ℕ → Bool
 is_ignored text = is_empty_or_comment (without_leading_space text)
 
+-- its first byte is space
 abbrev pub starts_with_space : List ℕ → Bool
 starts_with_space [] = false
 starts_with_space (b ∷ bytes) = is_space b
 
--- a logical line of one physical line, and with one more
+-- a logical line of one physical line
 abbrev pub alone : Physical → Logical
 alone line = record { line = line.number; last = line.number; text = line.text }
 
+-- a logical line with one more physical line
 abbrev pub continued : Logical → Physical → Logical
 continued logical line = record { line = logical.line; last = line.number; text = logical.text ++ line.text }
 
@@ -45,6 +49,7 @@ pub record Grouped : Type 0 where
   pub leading : List Physical
   pub logical : List Logical
 
+-- a line that counts, before those behind it
 abbrev pub with_line : Physical → Grouped → Grouped
 with_line line g =
     if starts_with_space line.text then record { leading = line ∷ g.leading; logical = g.logical }
@@ -59,12 +64,12 @@ abbrev pub grouped : List Physical → Grouped
 grouped [] = record { leading = []; logical = [] }
 grouped (line ∷ lines) = unless_ignored line (grouped lines)
 
--- there is nothing that the first line could continue
+-- the first of the lines that continue nothing is refused
 abbrev pub unless_leading : List Physical → List Logical → Result (List Logical) TextFault
 unless_leading [] logical = Ok logical
 unless_leading (line ∷ lines) logical = Err (Continuation line.number)
 
--- a text whose lines are grouped so has these logical lines, unless its first line has nothing to continue
+-- the logical lines of a text whose lines are grouped so
 abbrev pub outcome : Grouped → Result (List Logical) TextFault
 outcome g = unless_leading g.leading g.logical
 

@@ -4,7 +4,7 @@ use Rattle.std.specs.List.{list_all, slice_split}
 use Rattle.std.specs.Char.{is_ascii_alphanumeric, to_ascii_lowercase}
 use Rattle.std.specs.Str.{bytes_eq}
 
--- RFC 1123, 2.1, with the underscore that Postfix takes too
+-- RFC 1123, 2.1: letters, digits and hyphens; postgate takes the underscore too, and any of them at the ends of a label
 abbrev pub is_label_byte : ℕ → Bool
 is_label_byte b = is_ascii_alphanumeric b || b == 45 || b == 95
 
@@ -12,13 +12,14 @@ is_label_byte b = is_ascii_alphanumeric b || b == 45 || b == 95
 abbrev pub is_label : List ℕ → Bool
 is_label label = nat_lt 0 (length label) && nat_le (length label) 63 && list_all is_label_byte label
 
--- a host name: labels parted by single dots
+-- a host name (RFC 1035, 2.3.1): labels parted by single dots; postgate sets no limit to its length as a whole
 abbrev pub is_host_name : List ℕ → Bool
 is_host_name name = list_all is_label (slice_split (λ b. b == 46) name)
 
--- RFC 1035, 2.3.3: letters count as the same in either case
+-- a text with its capital letters made small
 abbrev pub folded : List ℕ → List ℕ
 folded name = map to_ascii_lowercase name
 
-abbrev pub same_name : List ℕ → List ℕ → Bool
-same_name a b = bytes_eq (folded a) (folded b)
+-- RFC 1035, 2.3.3, and RFC 5321, 2.4: letters count as the same in either case
+abbrev pub same_in_any_case : List ℕ → List ℕ → Bool
+same_in_any_case a b = bytes_eq (folded a) (folded b)

@@ -25,7 +25,7 @@ cause_text C14 = codes "C14 setting outside the profile"
 cause_text C15 = codes "C15 file too large"
 cause_text C16 = codes "C16 expansion too long"
 
--- control bytes print as question marks
+-- control bytes print as question marks, so that a refusal is one line
 abbrev pub printable : ℕ → ℕ
 printable b = if nat_lt b 32 || b == 127 then 63 else b
 

@@ -1,8 +1,9 @@
--- Space, which is a blank or a tab, and text without it at its ends.
+-- Space, and text without it at its ends (postconf(5): white space round a value does not belong to it). That space is a blank or a tab
+-- and no other byte is postgate's own.
 use Rattle.std.specs.Prelude.{ℕ, ◌-◌, ◌==◌, ◌||◌, Bool, List, length, take, drop}
 use Rattle.std.specs.List.{prefix_len, suffix_len}
 
--- postconf(5): white space within and round values is blanks and tabs
+-- a blank or a tab
 abbrev pub is_space : ℕ → Bool
 is_space b = b == 32 || b == 9
 

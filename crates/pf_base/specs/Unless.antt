@@ -1,4 +1,4 @@
--- What an answer is, unless memory was wanting.
+-- What an answer is, unless memory was wanting. A word of contracts, by no standard.
 use Rattle.std.specs.Prelude.{◌≢◌, Result, Ok, Err, MatchResult}
 
 -- P holds of the answer, or it is want of memory, which is free

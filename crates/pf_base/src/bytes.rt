@@ -57,7 +57,7 @@ impl Bytes {
         }
     }
 
-    /// A copy of the slice.
+    /// A copy of the slice, unless there is no memory.
     pub fn from_slice(alloc: Global, bytes: &[u8]) -> Result<Bytes, NoMemory>
         ensures { IfOk result (λ copy. copy ≡ bytes.now) }
     {
@@ -65,7 +65,7 @@ impl Bytes {
         Ok(Bytes { items })
     }
 
-    /// The same bytes again.
+    /// The same bytes again, unless there is no memory.
     pub fn copy(&self, alloc: Global) -> Result<Bytes, NoMemory>
         ensures { IfOk result (λ copy. copy ≡ self.now) }
     {
@@ -79,6 +79,7 @@ impl Bytes {
         self.items.len() as u64
     }
 
+    /// The bytes as a slice.
     pub fn as_slice(&self) -> &[u8]
         ensures { result.now ≡ self.now }
     {
@@ -111,7 +112,7 @@ impl Bytes {
         Ok(())
     }
 
-    /// Adds the parts in turn at the end.
+    /// Adds the parts in turn at the end. Where there is no memory, a front of them may have been added.
     pub fn extend_all(&mut self, parts: &[&[u8]]) -> Result<(), NoMemory>
         ensures { OnOk result (self.new ≡ self.old ++ flat_map (λ part. part.now) parts.now) }
     {

@@ -34,6 +34,7 @@ impl<T> List<T> {
         self.items.len() as u64
     }
 
+    /// The items as a slice.
     pub fn as_slice(&self) -> &[T]
         ensures { result.now ≡ self.now }
     {

@@ -25,8 +25,10 @@ pub struct Logical {
 /// Why a text has no logical lines.
 #[derive(Clone, Copy, Debug, PartialEq, Eq, Drop, Error)]
 pub enum TextFault {
+    /// The first line that is not ignored starts with space; `line` is its number, from 1.
     #[error("line {line}: continuation of nothing")]
     Continuation { line: u64 },
+    /// Memory was wanting.
     #[error("no memory")]
     NoMemory,
 }
@@ -139,7 +141,8 @@ impl Gathered {
     }
 }
 
-/// The logical lines of a text. `Continuation` comes exactly where the first line that is not ignored starts with space.
+/// The logical lines of a text (postconf(5), main.cf format). `Continuation` comes exactly where the first line that is not
+/// ignored starts with space.
 pub fn logical_lines(alloc: Global, text: &[u8]) -> Result<List<Logical>, TextFault>
     ensures { Unless result TextFault.NoMemory (λ r. r ≡ spec.logical_lines_of text.now) }
 {

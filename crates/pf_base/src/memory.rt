@@ -1,7 +1,7 @@
 //! The objects outside, in memory. Each is made with the numbers, from 1, of its calls that fail.
-ghost use Rattle.std.specs.Prelude.{◌≡◌, ◌≤◌, ◌↔◌, ◌==◌, [], Some, Err, true, length, min, take, drop, IfOk, OnOk, OnErr, is_err};
+ghost use Rattle.std.specs.Prelude.{◌≡◌, ◌≤◌, ◌↔◌, ◌==◌, [], Some, Err, true, length, min, take, drop, IfOk, OnOk, OnErr, is_err, unwrap_or};
 ghost use Rattle.std.specs.List.{find, list_any, position};
-ghost use Rattle.std.specs.Option.{option_copied};
+ghost use Rattle.std.specs.Option.{option_copied, option_map};
 ghost use Rattle.std.specs.Str.{bytes_eq};
 ghost use Rattle.std.specs.Io.{ReadsAtMost};
 ghost use Rattle.pf_base.specs.Causes.{HasCause, HasOuterCause};
@@ -13,6 +13,7 @@ use crate::list::List;
 use crate::outside::{Files, Sink, Source};
 use crate::pair::Pair;
 use std::alloc::Global;
+use std::marker::Model;
 
 // Whether a number is among these.
 fn contains(numbers: &[u64], number: u64) -> bool
@@ -29,11 +30,19 @@ struct Schedule {
     faults: u64,
 }
 
+impl Model for Schedule {
+    ghost use Rattle.pf_base.specs.Memory.{Calls};
+
+    ghost Value = { Calls };
+
+    ghost view = { λ schedule. record { failing = schedule.failing; made = schedule.calls; faults = schedule.faults } };
+}
+
 impl Schedule {
-    ghost use Rattle.pf_base.specs.Memory.{CountsCall};
+    ghost use Rattle.pf_base.specs.Memory.{CountsCall, none_made};
 
     fn new(failing: List<u64>) -> Schedule
-        ensures { result ≡ record { failing = failing; calls = 0; faults = 0 } }
+        ensures { result ≡ none_made failing }
     {
         Schedule {
             failing,
@@ -73,19 +82,26 @@ pub struct MemSource {
     at: usize,
     cuts: List<u64>,
     schedule: Schedule,
-    ghost within: { at ≤ length bytes },
+}
+
+impl Model for MemSource {
+    ghost use Rattle.std.specs.Prelude.{◌≤◌, drop, length};
+    ghost use Rattle.pf_base.specs.Memory.{MemorySource};
+
+    ghost Value = { MemorySource };
+
+    ghost view = { λ source. record { left = drop source.at source.bytes; cuts = source.cuts; calls = source.schedule } };
+
+    ghost invariant = { λ source. source.at ≤ length source.bytes };
 }
 
 impl MemSource {
-    ghost use Rattle.pf_base.specs.MemoryForms.{fresh, source_cuts, source_left, source_schedule};
-    ghost use Rattle.pf_base.specs.Memory.{greatest_read};
+    ghost use Rattle.pf_base.specs.Memory.{greatest_read, none_made};
 
-    /// These bytes. `cuts` are the greatest sizes of successive reads, the last one repeated; a cut of 0 counts as 1,
-    /// and an empty list sets no limit.
+    /// These bytes. `cuts` are the greatest sizes of successive reads in bytes, the last one repeated; a cut of 0 counts
+    /// as 1, and an empty list sets no limit. `failing` are the numbers, from 1, of the reads that fail.
     pub fn new(bytes: Bytes, cuts: List<u64>, failing: List<u64>) -> MemSource
-        ensures left { source_left result ≡ bytes }
-        ensures cuts { source_cuts result ≡ cuts }
-        ensures schedule { source_schedule result ≡ fresh failing }
+        ensures { result ≡ record { left = bytes; cuts = cuts; calls = none_made failing } }
     {
         MemSource {
             bytes,
@@ -97,7 +113,7 @@ impl MemSource {
 
     // The most bytes that the read which was counted last gives.
     fn greatest_read(&self) -> u64
-        ensures size { result ≡ greatest_read self.now.cuts self.now.schedule.calls }
+        ensures size { result ≡ greatest_read self.now.cuts self.now.calls.made }
         ensures some { 1 ≤ result }
     {
         let cuts = self.cuts.as_slice();
@@ -113,21 +129,20 @@ impl MemSource {
 }
 
 impl Source for MemSource {
-    ghost use Rattle.pf_base.specs.Memory.{CountsCall, fails_next};
-    ghost use Rattle.pf_base.specs.MemoryForms.{bytes_read, source_cuts, source_left, source_schedule};
+    ghost use Rattle.pf_base.specs.Memory.{MakesCall, bytes_read, fails_next};
 
-    ghost left = { λ source. Some (drop source.at source.bytes) };
+    ghost left = { λ source. Some source.left };
 
-    ghost faults = { λ source. source.schedule.faults };
+    ghost faults = { λ source. source.calls.faults };
 
     fn read(&mut self, buf: &mut [u8]) -> Result<usize, Failed>
         ensures bound { ReadsAtMost result buf.new }
-        ensures bytes { Reads (Some (source_left self.old)) (Some (source_left self.new)) result buf.new }
-        ensures cause { HasCause (source_schedule self.old).faults (source_schedule self.new).faults result }
-        ensures fails { is_err result ≡ fails_next (source_schedule self.old) }
-        ensures count { IfOk result (λ n. n ≡ bytes_read self.old (source_schedule self.new).calls (length buf.new)) }
-        ensures call { CountsCall (source_schedule self.old) (source_schedule self.new) (fails_next (source_schedule self.old)) }
-        ensures cuts { source_cuts self.new ≡ source_cuts self.old }
+        ensures bytes { Reads (Some self.old.left) (Some self.new.left) result buf.new }
+        ensures cause { HasCause self.old.calls.faults self.new.calls.faults result }
+        ensures fails { is_err result ≡ fails_next self.old.calls }
+        ensures count { IfOk result (λ n. n ≡ bytes_read self.old (length buf.new)) }
+        ensures call { MakesCall self.old.calls self.new.calls }
+        ensures cuts { self.new.cuts ≡ self.old.cuts }
     {
         if self.schedule.next() {
             return Err(Failed);
@@ -147,13 +162,20 @@ pub struct MemSink {
     schedule: Schedule,
 }
 
-impl MemSink {
-    ghost use Rattle.pf_base.specs.MemoryForms.{fresh, sink_bytes, sink_schedule};
+impl Model for MemSink {
+    ghost use Rattle.pf_base.specs.Memory.{MemorySink};
 
-    /// Nothing written yet.
+    ghost Value = { MemorySink };
+
+    ghost view = { λ sink. record { written = sink.bytes; calls = sink.schedule } };
+}
+
+impl MemSink {
+    ghost use Rattle.pf_base.specs.Memory.{none_made};
+
+    /// Nothing written yet. `failing` are the numbers, from 1, of the writes that fail.
     pub fn new(alloc: Global, failing: List<u64>) -> MemSink
-        ensures bytes { sink_bytes result ≡ [] }
-        ensures schedule { sink_schedule result ≡ fresh failing }
+        ensures { result ≡ record { written = []; calls = none_made failing } }
     {
         MemSink {
             bytes: Bytes::new(alloc),
@@ -163,25 +185,24 @@ impl MemSink {
 
     /// What was written.
     pub fn bytes(&self) -> &Bytes
-        ensures { result.now ≡ sink_bytes self.now }
+        ensures { result.now ≡ self.now.written }
     {
         &self.bytes
     }
 }
 
 impl Sink for MemSink {
-    ghost use Rattle.pf_base.specs.Memory.{CountsCall, fails_next};
-    ghost use Rattle.pf_base.specs.MemoryForms.{sink_bytes, sink_schedule};
+    ghost use Rattle.pf_base.specs.Memory.{MakesCall, fails_next};
 
-    ghost written = { λ sink. Some sink.bytes };
+    ghost written = { λ sink. Some sink.written };
 
-    ghost faults = { λ sink. sink.schedule.faults };
+    ghost faults = { λ sink. sink.calls.faults };
 
     fn write(&mut self, piece: &[u8]) -> Result<(), OuterFault>
-        ensures bytes { Writes (Some (sink_bytes self.old)) (Some (sink_bytes self.new)) result piece.now }
-        ensures cause { HasOuterCause (sink_schedule self.old).faults (sink_schedule self.new).faults result }
-        ensures fails { (result ≡ Err OuterFault.Failed) ↔ (fails_next (sink_schedule self.old) ≡ true) }
-        ensures call { CountsCall (sink_schedule self.old) (sink_schedule self.new) (fails_next (sink_schedule self.old)) }
+        ensures bytes { Writes (Some self.old.written) (Some self.new.written) result piece.now }
+        ensures cause { HasOuterCause self.old.calls.faults self.new.calls.faults result }
+        ensures fails { (result ≡ Err OuterFault.Failed) ↔ (fails_next self.old.calls ≡ true) }
+        ensures call { MakesCall self.old.calls self.new.calls }
     {
         if self.schedule.next() {
             return Err(OuterFault::Failed);
@@ -201,14 +222,22 @@ pub struct MemFiles {
     schedule: Schedule,
 }
 
+impl Model for MemFiles {
+    ghost use Rattle.pf_base.specs.Memory.{MemoryFiles};
+
+    ghost Value = { MemoryFiles };
+
+    ghost view = { λ files. record { files = files.files; calls = files.schedule } };
+}
+
 impl MemFiles {
     ghost use Rattle.pf_base.specs.FileList.{with_file};
-    ghost use Rattle.pf_base.specs.MemoryForms.{files_list, files_schedule, fresh};
+    ghost use Rattle.pf_base.specs.Memory.{none_made};
 
-    /// These files.
+    /// These files, each a name with its bytes; of several with one name the first counts. `failing` are the numbers,
+    /// from 1, of the calls that fail.
     pub fn new(alloc: Global, files: List<Pair>, failing: List<u64>) -> MemFiles
-        ensures files { files_list result ≡ files }
-        ensures schedule { files_schedule result ≡ fresh failing }
+        ensures { result ≡ record { files = files; calls = none_made failing } }
     {
         MemFiles {
             alloc,
@@ -260,23 +289,35 @@ impl MemFiles {
 }
 
 impl Files for MemFiles {
-    ghost use Rattle.pf_base.specs.Memory.{CountsCall, fails_next};
+    ghost use Rattle.pf_base.specs.Memory.{MakesCall, fails_next};
     ghost use Rattle.pf_base.specs.FileList.{file_of, ReadsFrom, Replaces};
-    ghost use Rattle.pf_base.specs.MemoryForms.{files_list, files_schedule};
     ghost use Rattle.pf_base.specs.declared.pair.Pair.{Pair};
 
     ghost content = { λ files. Some files.files };
 
-    ghost faults = { λ files. files.schedule.faults };
+    ghost faults = { λ files. files.calls.faults };
 
-    fn size(&mut self, name: &str) -> Result<Option<u64>, Failed> {
+    fn size(&mut self, name: &str) -> Result<Option<u64>, Failed>
+        ensures told { IfOk result (λ size. size ≡ option_map length (file_of self.old.files name.now)) }
+        ensures same { self.new.files ≡ self.old.files }
+        ensures cause { HasCause self.old.calls.faults self.new.calls.faults result }
+        ensures fails { is_err result ≡ fails_next self.old.calls }
+        ensures call { MakesCall self.old.calls self.new.calls }
+    {
         if self.schedule.next() {
             return Err(Failed);
         }
         Ok(self.find(name).map(|pair| pair.value.len()))
     }
 
-    fn read_at(&mut self, name: &str, at: u64, buf: &mut [u8]) -> Result<usize, Failed> {
+    fn read_at(&mut self, name: &str, at: u64, buf: &mut [u8]) -> Result<usize, Failed>
+        ensures bound { ReadsAtMost result buf.new }
+        ensures told { IfOk result (λ n. ReadsFrom (unwrap_or (file_of self.old.files name.now) []) at n buf.new) }
+        ensures same { self.new.files ≡ self.old.files }
+        ensures cause { HasCause self.old.calls.faults self.new.calls.faults result }
+        ensures fails { is_err result ≡ fails_next self.old.calls }
+        ensures call { MakesCall self.old.calls self.new.calls }
+    {
         if self.schedule.next() {
             return Err(Failed);
         }
@@ -289,7 +330,12 @@ impl Files for MemFiles {
         Ok(copy_front(buf, left, usize::MAX))
     }
 
-    fn replace(&mut self, name: &str, bytes: &[u8]) -> Result<(), OuterFault> {
+    fn replace(&mut self, name: &str, bytes: &[u8]) -> Result<(), OuterFault>
+        ensures files { Replaces (Some self.old.files) (Some self.new.files) result name.now bytes.now }
+        ensures cause { HasOuterCause self.old.calls.faults self.new.calls.faults result }
+        ensures fails { (result ≡ Err OuterFault.Failed) ↔ (fails_next self.old.calls ≡ true) }
+        ensures call { MakesCall self.old.calls self.new.calls }
+    {
         if self.schedule.next() {
             return Err(OuterFault::Failed);
         }

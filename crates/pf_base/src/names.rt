@@ -21,16 +21,17 @@ fn is_label(label: &[u8]) -> bool
     0 < label.len() && label.len() <= 63 && has_label_bytes(label)
 }
 
-/// Whether a text is a host name: labels of 1 to 63 letters, digits, `-` and `_`, parted by single dots.
+/// Whether a text is a host name: labels of 1 to 63 letters, digits, `-` and `_`, parted by single dots (RFC 1123, 2.1;
+/// RFC 1035, 2.3.4).
 pub fn is_host_name(name: &[u8]) -> bool
     ensures { result ≡ names.is_host_name name.now }
 {
     name.split(|b| *b == b'.').all(|label| is_label(label))
 }
 
-/// Whether two names are the same, their letters in either case (RFC 1035, 2.3.3).
-pub fn same_name(a: &[u8], b: &[u8]) -> bool
-    ensures { result ≡ names.same_name a.now b.now }
+/// Whether two texts are the same, their letters A to Z in either case (RFC 1035, 2.3.3; RFC 5321, 2.4).
+pub fn same_in_any_case(a: &[u8], b: &[u8]) -> bool
+    ensures { result ≡ names.same_in_any_case a.now b.now }
 {
     a.eq_ignore_ascii_case(b)
 }

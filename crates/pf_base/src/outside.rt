@@ -19,7 +19,7 @@ pub trait Source {
     ghost faults: { Self → ℕ };
 
     /// Reads some bytes into the buffer and says how many: 0 at the end alone, where the buffer is not empty.
-    /// A failed read takes no byte.
+    /// `Failed` comes only where the count of faults rose, and a failed read takes no byte.
     fn read(&mut self, buf: &mut [u8]) -> Result<usize, Failed>
         ensures bound { ReadsAtMost result buf.new }
         ensures bytes { Reads (left self.old) (left self.new) result buf.new }
@@ -34,7 +34,7 @@ pub trait Sink {
     /// How often a write has failed.
     ghost faults: { Self → ℕ };
 
-    /// Writes the whole piece, or, where it is refused, a front of it.
+    /// Writes the whole piece, or, where it is refused, a front of it. `Failed` comes only where the count of faults rose.
     fn write(&mut self, piece: &[u8]) -> Result<(), OuterFault>
         ensures bytes { Writes (written self.old) (written self.new) result piece.now }
         ensures cause { HasOuterCause (faults self.old) (faults self.new) result };
@@ -48,7 +48,7 @@ pub trait Files {
     /// How often a call has failed.
     ghost faults: { Self → ℕ };
 
-    /// How many bytes the file has; None where there is no such file.
+    /// How many bytes the file has; None where there is no such file. `Failed` comes only where the count of faults rose.
     fn size(&mut self, name: &str) -> Result<Option<u64>, Failed>
         ensures told { (all : Seq Pair) → content self.old ≡ Some all →
             IfOk result (λ size. size ≡ option_map length (file_of all name.now)) }
@@ -57,6 +57,7 @@ pub trait Files {
 
     /// Reads bytes of the file from the place `at` on, counted from 0, and says how many: 0 at the end alone,
     /// where the buffer is not empty. A file that is absent reads as an empty one.
+    /// `Failed` comes only where the count of faults rose.
     fn read_at(&mut self, name: &str, at: u64, buf: &mut [u8]) -> Result<usize, Failed>
         ensures bound { ReadsAtMost result buf.new }
         ensures told { (all : Seq Pair) → content self.old ≡ Some all →
@@ -65,6 +66,7 @@ pub trait Files {
         ensures cause { HasCause (faults self.old) (faults self.new) result };
 
     /// Puts these bytes in the place of the file, in one step. Refused, it left the file as before or with the new bytes.
+    /// `Failed` comes only where the count of faults rose.
     fn replace(&mut self, name: &str, bytes: &[u8]) -> Result<(), OuterFault>
         ensures files { Replaces (content self.old) (content self.new) result name.now bytes.now }
         ensures cause { HasOuterCause (faults self.old) (faults self.new) result };

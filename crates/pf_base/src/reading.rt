@@ -1,7 +1,8 @@
 //! Whole files.
 ghost use Rattle.std.specs.Prelude.{◌≡◌, ◌≢◌, ◌<◌, ◌≤◌, ◌+◌, List as Seq, [], Some, Ok, Err, length, take, unwrap_or, IfOk};
 ghost use Rattle.pf_base.specs.Causes.{HasReadCause};
-ghost use Rattle.pf_base.specs.FileList.{file_of, whole_file, AddsPart};
+ghost use Rattle.pf_base.specs.FileList.{file_of, whole_file};
+ghost use Rattle.pf_base.specs.FileParts.{AddsPart};
 ghost use Rattle.pf_base.specs.declared.pair.Pair.{Pair};
 
 use crate::bytes::Bytes;
@@ -10,16 +11,19 @@ use crate::outside::Files;
 use std::alloc::Global;
 use thiserror::Error;
 
-/// The most bytes that a file may have: 64 MiB.
+/// The most bytes that a file may have: 64 MiB, postgate's own limit.
 pub const FILE_LIMIT: u64 = 67_108_864;
 
 /// Why a file was not read.
 #[derive(Clone, Copy, Debug, PartialEq, Eq, Drop, Error)]
 pub enum ReadFault {
+    /// The count of faults of the files rose.
     #[error("a read failed")]
     Failed,
+    /// The file has more than [`FILE_LIMIT`] bytes.
     #[error("the file is too large")]
     TooLarge,
+    /// Memory was wanting.
     #[error("no memory")]
     NoMemory,
 }

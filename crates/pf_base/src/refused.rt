@@ -7,44 +7,44 @@ use crate::fault::NoMemory;
 use crate::numbers::decimal;
 use std::alloc::Global;
 
-/// The cause of a refusal, in the order in which the codes are printed.
+/// The cause of a refusal, in the order of the codes, which are postgate's own.
 #[derive(Clone, Copy, Debug, PartialEq, Eq)]
 pub enum Cause {
-    /// A continuation of nothing.
+    /// The first line that is not ignored starts with space.
     C1,
-    /// A line without an equals sign.
+    /// A logical line has no equals sign.
     C2,
-    /// A bad name.
+    /// A setting's name is none.
     C3,
-    /// An expansion too deep.
+    /// Names of parameters are nested too deep in a value.
     C4,
-    /// A bad dollar form.
+    /// A `$` in a value begins none of its forms.
     C5,
-    /// A bad value.
+    /// A value is not of its parameter's kind.
     C6,
-    /// An unknown restriction.
+    /// A word of a restriction list is no restriction.
     C7,
-    /// A bad argument.
+    /// A restriction's argument is wanting, or not of its kind.
     C8,
-    /// A bad table.
+    /// A text names no table.
     C9,
-    /// No such file.
+    /// A file is not there.
     C10,
-    /// A table text refused.
+    /// A table's text is not of its form.
     C11,
-    /// No closing restriction.
+    /// No restriction list closes the server to strangers.
     C12,
-    /// A class that names itself.
+    /// A restriction class names itself, by whatever way.
     C13,
-    /// A setting outside the profile.
+    /// A setting is one that postgate does not take, or has a value that it does not take, or is wanting.
     C14,
-    /// A file too large.
+    /// A file has more bytes than are read.
     C15,
-    /// An expansion too long.
+    /// A value is too long once its names are expanded.
     C16,
 }
 
-/// A refusal: its file, the number of its line (0 for a default or a whole file), its cause and what it names.
+/// A refusal: its file, the number of its line, from 1 (0 for a default or a whole file), its cause and what it names.
 #[derive(Debug, PartialEq, Eq, Drop)]
 pub struct Refused {
     pub file: Bytes,
@@ -56,7 +56,9 @@ pub struct Refused {
 /// Why a configuration can't be read.
 #[derive(Debug, PartialEq, Eq, Drop)]
 pub enum ConfFault {
+    /// It is refused.
     Refused(Refused),
+    /// Memory was wanting.
     NoMemory,
 }
 

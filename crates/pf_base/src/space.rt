@@ -4,7 +4,7 @@ ghost use Rattle.std.specs.List.{prefix_len, suffix_len};
 ghost use Rattle.pf_base.specs.Space as space;
 ghost use Rattle.pf_base.specs.Space.{is_space};
 
-/// Whether a byte is a blank or a tab.
+/// Whether a byte is space: a blank or a tab, as postgate takes the white space of postconf(5).
 pub fn is_space(b: u8) -> bool
     ensures { result ≡ space.is_space b }
 {
@@ -36,14 +36,14 @@ fn trailing_space(text: &[u8]) -> usize
     end
 }
 
-/// A text from its first byte on that is no space.
+/// A text from its first byte on that is no space (postconf(5)).
 pub fn without_leading_space(text: &[u8]) -> &[u8]
     ensures { result.now ≡ space.without_leading_space text.now }
 {
     &text[leading_space(text)..]
 }
 
-/// A text without space at both ends.
+/// A text without space at both ends (postconf(5)).
 pub fn trimmed(text: &[u8]) -> &[u8]
     ensures { result.now ≡ space.trimmed text.now }
 {

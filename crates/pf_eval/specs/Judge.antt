@@ -1,7 +1,7 @@
--- What a list of restrictions says of a client and a recipient's domain (SMTPD_ACCESS_README).
+-- What a list of restrictions says of a client and a recipient's domain (SMTPD_ACCESS_README; postconf(5), smtpd_relay_restrictions).
 use Rattle.std.specs.Prelude.{ℕ, ◌+◌, Bool, List, [], ◌∷◌, if◌then◌else◌}
 use Rattle.std.specs.List.{list_any}
-use Rattle.pf_base.specs.Names.{same_name}
+use Rattle.pf_base.specs.Names.{same_in_any_case}
 use Rattle.pf_eval.specs.Nets.{net_has}
 use Rattle.pf_eval.specs.declared.policy.PlainPolicy.{PlainPolicy}
 use Rattle.pf_eval.specs.declared.policy.PlainItem.{PlainItem}
@@ -11,19 +11,19 @@ use Rattle.pf_eval.specs.declared.policy.PlainEnd.TheVariants.{Accept, Deny}
 use Rattle.pf_eval.specs.declared.judge.Verdict.{Verdict}
 use Rattle.pf_eval.specs.declared.judge.Verdict.TheVariants.{Permits, Denies, GoesOn}
 
--- mynetworks: the client's address is in one of the networks
-abbrev pub is_own_client : PlainPolicy → ℕ → Bool
-is_own_client policy client = list_any (λ net. net_has net client) policy.networks
+-- the client's address is in one of the networks (postconf(5), mynetworks)
+abbrev pub is_in_mynetworks : PlainPolicy → ℕ → Bool
+is_in_mynetworks policy client = list_any (λ net. net_has net client) policy.networks
 
--- mydestination: the domain is one of the names
+-- the domain is one of the names (postconf(5), mydestination)
 abbrev pub is_destination : PlainPolicy → List ℕ → Bool
-is_destination policy domain = list_any (λ name. same_name name domain) policy.destinations
+is_destination policy domain = list_any (λ name. same_in_any_case name domain) policy.destinations
 
--- permit_mynetworks: permits where the client is in mynetworks
+-- permits where the client is in mynetworks (postconf(5), permit_mynetworks)
 abbrev pub permit_mynetworks : PlainPolicy → ℕ → Verdict
-permit_mynetworks policy client = if is_own_client policy client then Permits else GoesOn
+permit_mynetworks policy client = if is_in_mynetworks policy client then Permits else GoesOn
 
--- reject_unauth_destination: denies where the domain is no destination
+-- denies where the domain is no destination (postconf(5), reject_unauth_destination)
 abbrev pub reject_unauth_destination : PlainPolicy → List ℕ → Verdict
 reject_unauth_destination policy domain = if is_destination policy domain then GoesOn else Denies
 
@@ -38,7 +38,7 @@ or_on Permits place on = Accept
 or_on Denies place on = Deny place
 or_on GoesOn place on = on
 
--- how a list ends whose first item has this place; where it has no item left, it lets through
+-- how a list ends whose first item has this place; where no item is left, the recipient is accepted
 abbrev pub end_from : PlainPolicy → ℕ → List ℕ → ℕ → List PlainItem → PlainEnd
 end_from policy client domain place [] = Accept
 end_from policy client domain place (item ∷ items) =

@@ -1,4 +1,4 @@
--- Networks of IPv4 addresses (cidr_table(5): an address is in a network where the bits of the prefix are the same).
+-- Networks of IPv4 addresses (postconf(5), mynetworks; cidr_table(5)).
 use Rattle.std.specs.Prelude.{ℕ, ◌-◌, ◌/◌, ◌^◌, ◌==◌, Bool}
 
 -- an address, and how many of its first bits count
@@ -6,6 +6,6 @@ pub record Net : Type 0 where
   pub addr : ℕ
   pub prefix : ℕ
 
--- cidr_table(5): an address is in a network where their first bits are the same
+-- an address is in a network where their first bits are the same
 abbrev pub net_has : Net → ℕ → Bool
 net_has net client = client / 2 ^ (32 - net.prefix) == net.addr / 2 ^ (32 - net.prefix)

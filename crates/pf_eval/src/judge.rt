@@ -4,7 +4,7 @@ ghost use Rattle.pf_eval.specs.Judge as judge;
 ghost use Rattle.pf_eval.specs.Judge.{end_of};
 
 use crate::policy::{PlainEnd, PlainItem, PlainPolicy};
-use pf_base::same_name;
+use pf_base::same_in_any_case;
 
 // What an item says.
 #[derive(Clone, Copy)]
@@ -14,8 +14,8 @@ enum Verdict {
     GoesOn,
 }
 
-fn is_own_client(policy: &PlainPolicy, client: u32) -> bool
-    ensures { result ≡ judge.is_own_client policy.now client }
+fn is_in_mynetworks(policy: &PlainPolicy, client: u32) -> bool
+    ensures { result ≡ judge.is_in_mynetworks policy.now client }
 {
     policy.networks.as_slice().iter().any(|net| net.has(client))
 }
@@ -27,13 +27,13 @@ fn is_destination(policy: &PlainPolicy, domain: &[u8]) -> bool
         .destinations
         .as_slice()
         .iter()
-        .any(|name| same_name(name.as_slice(), domain))
+        .any(|name| same_in_any_case(name.as_slice(), domain))
 }
 
 fn permit_mynetworks(policy: &PlainPolicy, client: u32) -> Verdict
     ensures { result ≡ judge.permit_mynetworks policy.now client }
 {
-    if is_own_client(policy, client) {
+    if is_in_mynetworks(policy, client) {
         Verdict::Permits
     } else {
         Verdict::GoesOn
@@ -59,7 +59,8 @@ fn item_verdict(policy: &PlainPolicy, client: u32, domain: &[u8], item: PlainIte
     }
 }
 
-/// How the relay list ends for this client and a recipient in this domain. A list that no item ends lets through.
+/// How the relay list ends for the client of this IPv4 address, whose first number is its highest byte, and a recipient in
+/// this domain, compared in any case (SMTPD_ACCESS_README). A list that no item ends accepts.
 #[tactic(auto, unfolding(crate::specs::Judge::end_of))]
 pub fn judge_plain(policy: &PlainPolicy, client: u32, domain: &[u8]) -> PlainEnd
     ensures { result ≡ end_of policy.now client domain.now }

@@ -4,7 +4,8 @@ ghost use Rattle.pf_eval.specs.Nets.{net_has};
 
 use std::marker::Model;
 
-/// The addresses whose first bits are those of one address. The prefix says how many bits, at most 32.
+/// A network: the addresses whose first bits are those of one address (cidr_table(5)). The prefix says how many bits, at
+/// most 32. The first number of an address is its highest byte.
 #[derive(Debug, Drop)]
 pub struct PlainNet {
     addr: u32,
@@ -35,7 +36,7 @@ impl PlainNet {
         }
     }
 
-    /// Whether an address is in the network.
+    /// Whether an address is in the network (cidr_table(5)).
     pub fn has(&self, client: u32) -> bool
         ensures { result ≡ net_has self.now client }
     {

@@ -2,14 +2,17 @@
 use crate::net::PlainNet;
 use pf_base::{Bytes, List};
 
-/// A restriction of the relay list.
+/// A restriction of the relay list (postconf(5)).
 #[derive(Clone, Copy, Debug, PartialEq, Eq)]
 pub enum PlainItem {
+    /// Permits where the client is in mynetworks.
     PermitMynetworks,
+    /// Denies where the recipient's domain is none of mydestination.
     RejectUnauthDestination,
 }
 
-/// The names of mydestination, the networks of mynetworks and the items of smtpd_relay_restrictions.
+/// The policy of a site: the names of mydestination, the networks of mynetworks and the items of smtpd_relay_restrictions
+/// (postconf(5)).
 #[derive(Debug, Drop)]
 pub struct PlainPolicy {
     pub destinations: List<Bytes>,
@@ -20,6 +23,8 @@ pub struct PlainPolicy {
 /// How the relay list ends; a denial names the place of its item, counted from 1.
 #[derive(Clone, Copy, Debug, PartialEq, Eq)]
 pub enum PlainEnd {
+    /// The recipient is accepted.
     Accept,
+    /// The item at this place denied it.
     Deny { place: u64 },
 }

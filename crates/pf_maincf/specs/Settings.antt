@@ -1,4 +1,4 @@
--- The settings of a main.cf (postconf(5)).
+-- The settings of a main.cf (postconf(5), main.cf format).
 use Rattle.std.specs.Prelude.{ℕ, ◌+◌, ◌==◌, ◌++◌, List, [], ◌∷◌, Option, None, Some, Result, Ok, Err, reverse, take, drop}
 use Rattle.std.specs.List.{find, position}
 use Rattle.std.specs.Option.{option_map}
@@ -50,6 +50,7 @@ settings_of_lines file (Ok lines) = settings_of file lines
 settings_of_lines file (Err (Continuation line)) = Err (refused file line C1)
 settings_of_lines file (Err TextNoMemory) = Err NoMemory
 
+-- a main.cf of these settings
 abbrev pub conf_with : List ℕ → Result (List Setting) ConfFault → Result Conf ConfFault
 conf_with file (Ok settings) = Ok (record { file = file; settings = settings })
 conf_with file (Err fault) = Err fault

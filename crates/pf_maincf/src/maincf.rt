@@ -62,8 +62,8 @@ fn settings_of(alloc: Global, file: &[u8], lines: &[Logical]) -> Result<List<Set
 }
 
 impl MainCf {
-    /// The settings of a main.cf with this name and this text. Its first line that is not ignored and starts with space
-    /// is refused as C1, else its first logical line without an equals sign as C2.
+    /// The settings of a main.cf with this name and this text (postconf(5), main.cf format). Where its first line that is not
+    /// ignored starts with space, it is refused as C1, else at its first logical line without an equals sign as C2.
     pub fn read(alloc: Global, file: &[u8], text: &[u8]) -> Result<MainCf, ConfFault>
         ensures { Unless result ConfFault.NoMemory (λ r. r ≡ conf_of file.now text.now) }
     {

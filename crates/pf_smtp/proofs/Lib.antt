@@ -1,3 +1,4 @@
 pub mod PieceLemmas
+pub mod Rows
 pub mod StepLemmas
 pub mod TookLemmas

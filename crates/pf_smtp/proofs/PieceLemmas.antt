@@ -6,9 +6,10 @@ use Rattle.std.proofs.Math.Seq.{take-append-add}
 use Rattle.pf_base.specs.Lines.{lines, rest, onto_line, unless_line}
 use Rattle.pf_base.proofs.LineEnds.{rest_of_none}
 use Rattle.pf_smtp.specs.Gathering.{AnswersLine, AnswersPiece, ComesDownTo, line_given}
-use Rattle.pf_smtp.specs.Session.{stays, before, steps, given, part_behind, replies_text, log_text}
+use Rattle.pf_smtp.specs.Feeding.{given, part_behind}
+use Rattle.pf_smtp.specs.Session.{stays, before, steps, replies_text, records_text, log_text}
 use Rattle.pf_smtp.specs.Step.{Step}
-use Rattle.pf_smtp.specs.Text.{text_of, log_line}
+use Rattle.pf_smtp.specs.Text.{text_of, record_text, log_line}
 use Rattle.pf_smtp.specs.declared.standing.Gathered.{Gathered}
 use Rattle.pf_smtp.specs.declared.standing.Standing.{Standing}
 use Rattle.pf_smtp.specs.declared.state.Setup.{Setup}
@@ -33,6 +34,9 @@ given_over s left e = steps_over s.setup s.state (onto_line s.part (lines left))
 pub replies_text-before : (setup : Setup) (a b : Step) → replies_text setup (before a b) ≡ replies_text setup a ++ replies_text setup b
 replies_text-before setup a b = flat_map-append (text_of setup.host) a.replies b.replies
 
+pub records_text-before : (a b : Step) → records_text (before a b) ≡ records_text a ++ records_text b
+records_text-before a b = flat_map-append record_text a.records b.records
+
 pub log_text-before : (a b : Step) → log_text (before a b) ≡ log_text a ++ log_text b
 log_text-before a b = flat_map-append log_line a.entries b.entries
 
@@ -56,6 +60,7 @@ pub answers_at_end : {b n : Gathered} {old new : Standing} {piece left : List �
     → (part : List ℕ) → (new.state.over ≡ false → part ≡ part_behind new left) → AnswersPiece b n old (record { setup = new.setup; state = new.state; part = part }) piece
 answers_at_end {b} {n} {old} {new} {piece} {left} c e part h = record {
   out = sym (c.out ∙ ap (λ g. n.out ++ replies_text new.setup g) e ∙ append-nil n.out);
+  mail = sym (c.mail ∙ ap (λ g. n.mail ++ records_text g) e ∙ append-nil n.mail);
   log = sym (c.log ∙ ap (λ g. n.log ++ log_text g) e ∙ append-nil n.log);
   setup = c.setup;
   state = sym (c.state ∙ ap (λ g. g.next) e);
@@ -72,6 +77,8 @@ comes_down_line {b} {n} {m} {old} {s} {t} {piece} {left} {line} behind c a e r o
     subst (λ u. ComesDownTo b m old u piece behind) (sym a.standing) (record {
       out = c.out ∙ ap (λ x. n.out ++ replies_text s.setup x) g ∙ ap (λ x. n.out ++ x) (replies_text-before s.setup first next)
           ∙ sym (append_assoc n.out (replies_text s.setup first) (replies_text s.setup next)) ∙ ap (λ x. x ++ replies_text s.setup next) (sym a.out);
+      mail = c.mail ∙ ap (λ x. n.mail ++ records_text x) g ∙ ap (λ x. n.mail ++ x) (records_text-before first next)
+          ∙ sym (append_assoc n.mail (records_text first) (records_text next)) ∙ ap (λ x. x ++ records_text next) (sym a.mail);
       log = c.log ∙ ap (λ x. n.log ++ log_text x) g ∙ ap (λ x. n.log ++ x) (log_text-before first next)
           ∙ sym (append_assoc n.log (log_text first) (log_text next)) ∙ ap (λ x. x ++ log_text next) (sym a.log);
       setup = c.setup;

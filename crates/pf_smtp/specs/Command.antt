@@ -1,7 +1,7 @@
 -- The parts of a command line (RFC 5321, 2.4 and 4.1.1).
 use Rattle.std.specs.Prelude.{ℕ, ◌==◌, List, Option, Some, None, length, take, drop, codes, if◌then◌else◌}
 use Rattle.std.specs.List.{before_first, after_first}
-use Rattle.pf_base.specs.Names.{same_name}
+use Rattle.pf_base.specs.Names.{same_in_any_case}
 use Rattle.pf_base.specs.Space.{is_space, trimmed, without_leading_space}
 use Rattle.pf_smtp.specs.declared.command.Verb.{Verb}
 use Rattle.pf_smtp.specs.declared.command.Verb.TheVariants.{Empty, Helo, Mail, Rcpt, Quit, Other}
@@ -9,10 +9,10 @@ use Rattle.pf_smtp.specs.declared.command.Verb.TheVariants.{Empty, Helo, Mail, R
 -- verbs are read in any case
 abbrev pub verb_named : List ℕ → Verb
 verb_named word =
-    if same_name word (codes "HELO") then Helo
-    else (if same_name word (codes "MAIL") then Mail
-    else (if same_name word (codes "RCPT") then Rcpt
-    else (if same_name word (codes "QUIT") then Quit
+    if same_in_any_case word (codes "HELO") then Helo
+    else (if same_in_any_case word (codes "MAIL") then Mail
+    else (if same_in_any_case word (codes "RCPT") then Rcpt
+    else (if same_in_any_case word (codes "QUIT") then Quit
     else Other)))
 
 -- the verb of a line without space at its ends: what stands before its first space
@@ -26,4 +26,4 @@ argument_of line = trimmed (after_first is_space line)
 -- what stands behind a keyword, which is read in any case, and space
 unfoldable pub after_keyword : List ℕ → List ℕ → Option (List ℕ)
 after_keyword keyword argument =
-    if same_name (take (length keyword) argument) keyword then Some (without_leading_space (drop (length keyword) argument)) else None
+    if same_in_any_case (take (length keyword) argument) keyword then Some (without_leading_space (drop (length keyword) argument)) else None

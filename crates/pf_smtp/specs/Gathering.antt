@@ -1,6 +1,8 @@
--- What a line and a piece of the input add to the texts of replies and log lines.
+-- What a line and a piece of the input add to the texts that a session has to write. Words of the code's contracts, between its loop over
+-- a piece and the session.
 use Rattle.std.specs.Prelude.{◌≡◌, ℕ, ◌++◌, false, List, []}
-use Rattle.pf_smtp.specs.Session.{given, part_behind, replies_text, log_text}
+use Rattle.pf_smtp.specs.Feeding.{given, part_behind}
+use Rattle.pf_smtp.specs.Session.{replies_text, records_text, log_text}
 use Rattle.pf_smtp.specs.Step.{Step, step}
 use Rattle.pf_smtp.specs.declared.standing.Gathered.{Gathered}
 use Rattle.pf_smtp.specs.declared.standing.Standing.{Standing}
@@ -9,13 +11,17 @@ use Rattle.pf_smtp.specs.declared.standing.Standing.{Standing}
 abbrev pub line_given : Standing → List ℕ → Step
 line_given s line = step s.setup s.state (s.part ++ line)
 
+-- a line was answered
 pub record AnswersLine (before now : Gathered) (old new : Standing) (line : List ℕ) : Type 0 where
   pub out : now.out ≡ before.out ++ replies_text old.setup (line_given old line)
+  pub mail : now.mail ≡ before.mail ++ records_text (line_given old line)
   pub log : now.log ≡ before.log ++ log_text (line_given old line)
   pub standing : new ≡ record { setup = old.setup; state = (line_given old line).next; part = [] }
 
+-- the lines that end in a piece were answered
 pub record AnswersPiece (before now : Gathered) (old new : Standing) (piece : List ℕ) : Type 0 where
   pub out : now.out ≡ before.out ++ replies_text old.setup (given old piece)
+  pub mail : now.mail ≡ before.mail ++ records_text (given old piece)
   pub log : now.log ≡ before.log ++ log_text (given old piece)
   pub setup : new.setup ≡ old.setup
   pub state : new.state ≡ (given old piece).next
@@ -24,6 +30,7 @@ pub record AnswersPiece (before now : Gathered) (old new : Standing) (piece : Li
 -- what a piece gives is what was gathered, and what the rest of the piece gives from here on
 pub record ComesDownTo (before now : Gathered) (old new : Standing) (piece left : List ℕ) : Type 0 where
   pub out : before.out ++ replies_text old.setup (given old piece) ≡ now.out ++ replies_text new.setup (given new left)
+  pub mail : before.mail ++ records_text (given old piece) ≡ now.mail ++ records_text (given new left)
   pub log : before.log ++ log_text (given old piece) ≡ now.log ++ log_text (given new left)
   pub setup : new.setup ≡ old.setup
   pub state : (given old piece).next ≡ (given new left).next

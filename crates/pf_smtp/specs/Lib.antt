@@ -1,4 +1,5 @@
 pub mod Command
+pub mod Feeding
 pub mod Gathering
 pub mod Gives
 pub mod Path

@@ -6,10 +6,11 @@ use Rattle.std.specs.Option.{option_and_then}
 use Rattle.pf_base.specs.Names.{is_host_name}
 use Rattle.pf_smtp.specs.declared.path.Address.{Address}
 
--- a letter, a digit, a dot, a hyphen, an underscore or a plus
+-- a letter, a digit, a dot, a hyphen, an underscore or a plus: fewer than RFC 5321 takes
 abbrev pub is_local_byte : ℕ → Bool
 is_local_byte b = is_ascii_alphanumeric b || b == 46 || b == 45 || b == 95 || b == 43
 
+-- one or more of them
 abbrev pub is_local_part : List ℕ → Bool
 is_local_part text = nat_lt 0 (length text) && list_all is_local_byte text
 

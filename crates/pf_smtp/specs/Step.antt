@@ -39,42 +39,47 @@ says reply state = record { replies = reply ∷ []; records = []; entries = []; 
 abbrev pub logs : Reply → Entry → State → Step
 logs reply entry state = record { replies = reply ∷ []; records = []; entries = entry ∷ []; next = state }
 
--- HELO name, which ends a transaction
+-- HELO name, which ends a transaction (RFC 5321, 4.1.1.1)
 abbrev pub helo : State → List ℕ → Step
 helo state argument =
     if length argument == 0 then says (Helo NeedsName) state else says (Helo Hello) (record state { sender = None })
 
--- MAIL FROM:path, which begins a transaction
+-- MAIL FROM:path, which begins a transaction (RFC 5321, 4.1.1.2)
 abbrev pub mail_address : State → Option Address → Step
 mail_address state None = says (Mail mail_reply.BadSender) state
 mail_address state (Some address) = says (Mail mail_reply.Taken) (record state { sender = Some address })
 
+-- its path, where it has its keyword
 abbrev pub mail_path : State → Option (List ℕ) → Step
 mail_path state None = says (Mail mail_reply.Syntax) state
 mail_path state (Some text) = mail_address state (path_of text)
 
+-- MAIL, outside a transaction alone
 abbrev pub mail : State → List ℕ → Step
 mail state argument =
     if is_some state.sender then says (Mail mail_reply.Nested) state else mail_path state (after_keyword (codes "FROM:") argument)
 
--- RCPT TO:path, in a transaction: the recipient is accepted, or a restriction denies it
+-- RCPT TO:path, in a transaction (RFC 5321, 4.1.1.3): the recipient is accepted, or a restriction denies it
 abbrev pub judged : State → Address → PlainEnd → Step
 judged state address Accept = logs (Rcpt rcpt_reply.Taken) (Accepted state.line address) state
 judged state address (Deny place) = logs (Rcpt (rcpt_reply.RelayDenied address)) (Denied state.line address place) state
 
+-- its address
 abbrev pub rcpt_address : Setup → State → Option Address → Step
 rcpt_address setup state None = says (Rcpt rcpt_reply.BadRecipient) state
 rcpt_address setup state (Some address) = judged state address (end_of setup.policy setup.client address.domain)
 
+-- its path, where it has its keyword
 abbrev pub rcpt_path : Setup → State → Option (List ℕ) → Step
 rcpt_path setup state None = says (Rcpt rcpt_reply.Syntax) state
 rcpt_path setup state (Some text) = rcpt_address setup state (path_of text)
 
+-- RCPT, in a transaction alone
 abbrev pub rcpt : Setup → State → List ℕ → Step
 rcpt setup state argument =
     if is_none state.sender then says (Rcpt rcpt_reply.NeedMail) state else rcpt_path setup state (after_keyword (codes "TO:") argument)
 
--- QUIT, which ends the session
+-- QUIT, which ends the session (RFC 5321, 4.1.1.10)
 abbrev pub quit : State → List ℕ → Step
 quit state argument =
     if length argument == 0 then says (Quit quit_reply.Bye) (record state { over = true }) else says (Quit quit_reply.Syntax) state
@@ -88,10 +93,14 @@ command setup state verb.Rcpt argument = rcpt setup state argument
 command setup state verb.Quit argument = quit state argument
 command setup state verb.Other argument = says (Line NotRecognized) state
 
--- a line without its line end: one of more than 2,048 bytes is answered as it is, another without space at its ends
+-- the most bytes of a line without its line end, which is the default of line_length_limit (postconf(5)); RFC 5321, 4.5.3.1.4, asks for 512
+abbrev pub line_limit : ℕ
+line_limit = 2048
+
+-- a line without its line end: one above the limit is answered as it is, another without space at its ends
 abbrev pub line_step : Setup → State → List ℕ → Step
 line_step setup state line =
-    if nat_lt 2048 (length line) then says (Line TooLong) state
+    if nat_lt line_limit (length line) then says (Line TooLong) state
     else command setup state (verb_of (trimmed line)) (argument_of (trimmed line))
 
 -- the next line as it stands before its line feed; lines are numbered from 1

@@ -1,10 +1,12 @@
--- The texts of replies and log lines.
+-- The texts of replies (RFC 5321, 4.2, with the codes x.y.z of RFC 3463), of record lines and of log lines. The words behind the codes, the record
+-- and the log are postgate's own.
 use Rattle.std.specs.Prelude.{ℕ, ◌++◌, List, [], ◌∷◌, codes}
 use Rattle.std.specs.Fmt.{decimal}
 use Rattle.std.specs.List.{flat_map}
 use Rattle.pf_smtp.specs.declared.path.Address.{Address}
 use Rattle.pf_smtp.specs.declared.entry.Entry.{Entry}
 use Rattle.pf_smtp.specs.declared.entry.Entry.TheVariants.{Accepted, Denied}
+use Rattle.pf_smtp.specs.declared.record_line.RecordLine.{RecordLine}
 use Rattle.pf_smtp.specs.declared.reply.LineReply.{LineReply}
 use Rattle.pf_smtp.specs.declared.reply.LineReply.TheVariants.{TooLong, BadSyntax, NotRecognized}
 use Rattle.pf_smtp.specs.declared.reply.HeloReply.{HeloReply}
@@ -26,25 +28,29 @@ joined parts = flat_map (λ part. part) parts
 abbrev pub crlf : List ℕ
 crlf = 13 ∷ 10 ∷ []
 
+-- to a line that is no command
 unfoldable pub line_text : LineReply → List ℕ
 line_text TooLong = codes "500 5.5.2 Error: line too long"
 line_text BadSyntax = codes "500 5.5.2 Error: bad syntax"
 line_text NotRecognized = codes "500 5.5.2 Error: command not recognized"
 
+-- to HELO
 unfoldable pub helo_text : List ℕ → HeloReply → List ℕ
 helo_text host NeedsName = codes "501 5.5.4 Syntax: HELO hostname"
 helo_text host Hello = joined (codes "250 " ∷ host ∷ [])
 
+-- to MAIL
 unfoldable pub mail_text : MailReply → List ℕ
 mail_text mail.Nested = codes "503 5.5.1 Error: nested MAIL command"
 mail_text mail.Syntax = codes "501 5.5.4 Syntax: MAIL FROM:<address>"
 mail_text mail.BadSender = codes "501 5.1.7 Bad sender address syntax"
 mail_text mail.Taken = codes "250 2.1.0 Ok"
 
--- reject_unauth_destination of postconf(5): the reply to a recipient that is denied
+-- to a recipient that is denied: the code is that of relay_domains_reject_code (postconf(5))
 unfoldable pub relay_denied_text : Address → List ℕ
 relay_denied_text address = joined (codes "554 5.7.1 <" ∷ address.local ∷ codes "@" ∷ address.domain ∷ codes ">: Relay access denied" ∷ [])
 
+-- to RCPT
 unfoldable pub rcpt_text : RcptReply → List ℕ
 rcpt_text rcpt.NeedMail = codes "503 5.5.1 Error: need MAIL command"
 rcpt_text rcpt.Syntax = codes "501 5.5.4 Syntax: RCPT TO:<address>"
@@ -52,6 +58,7 @@ rcpt_text rcpt.BadRecipient = codes "501 5.1.3 Bad recipient address syntax"
 rcpt_text (rcpt.RelayDenied address) = relay_denied_text address
 rcpt_text rcpt.Taken = codes "250 2.1.5 Ok"
 
+-- to QUIT
 unfoldable pub quit_text : QuitReply → List ℕ
 quit_text quit.Syntax = codes "501 5.5.4 Syntax: QUIT"
 quit_text quit.Bye = codes "221 2.0.0 Bye"
@@ -71,6 +78,10 @@ text_of host reply = reply_text host reply ++ crlf
 -- what a server says first (RFC 5321, 4.2)
 unfoldable pub greeting_of : List ℕ → List ℕ
 greeting_of host = joined (codes "220 " ∷ host ∷ codes " ESMTP Postfix" ∷ crlf ∷ [])
+
+-- a line of a message's record; no verb of today gives one
+abbrev pub record_text : RecordLine → List ℕ
+record_text line = elim line [ ]
 
 -- a recipient that was accepted
 unfoldable pub accepted_line : ℕ → Address → List ℕ

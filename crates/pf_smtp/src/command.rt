@@ -5,7 +5,7 @@ ghost use Rattle.std.specs.Option.{option_copied};
 ghost use Rattle.pf_base.specs.Space.{is_space};
 ghost use Rattle.pf_smtp.specs.Command as command;
 
-use pf_base::{is_space, same_name, trimmed, without_leading_space};
+use pf_base::{is_space, same_in_any_case, trimmed, without_leading_space};
 
 /// What a line asks for.
 #[derive(Clone, Copy, Debug, PartialEq, Eq)]
@@ -49,13 +49,13 @@ fn behind_first_word(line: &[u8]) -> &[u8]
 fn verb_named(word: &[u8]) -> Verb
     ensures { result ≡ command.verb_named word.now }
 {
-    if same_name(word, b"HELO") {
+    if same_in_any_case(word, b"HELO") {
         Verb::Helo
-    } else if same_name(word, b"MAIL") {
+    } else if same_in_any_case(word, b"MAIL") {
         Verb::Mail
-    } else if same_name(word, b"RCPT") {
+    } else if same_in_any_case(word, b"RCPT") {
         Verb::Rcpt
-    } else if same_name(word, b"QUIT") {
+    } else if same_in_any_case(word, b"QUIT") {
         Verb::Quit
     } else {
         Verb::Other
@@ -87,7 +87,7 @@ pub(crate) fn after_keyword<'a>(keyword: &[u8], argument: &'a [u8]) -> Option<&'
     ensures { option_copied result ≡ command.after_keyword keyword.now argument.now }
 {
     let end = keyword.len().min(argument.len());
-    if same_name(&argument[..end], keyword) {
+    if same_in_any_case(&argument[..end], keyword) {
         Some(without_leading_space(&argument[end..]))
     } else {
         None

@@ -12,8 +12,8 @@ use pf_base::{List, NoMemory, trimmed, without_return};
 use pf_eval::{PlainEnd, judge_plain};
 use std::alloc::Global;
 
-// A line has at most so many bytes, without its line end.
-const LINE_LIMIT: usize = 2048;
+/// A line has at most so many bytes, without its line end.
+pub(crate) const LINE_LIMIT: usize = 2048;
 
 // One reply.
 fn says(alloc: Global, reply: Reply) -> Result<Answer, NoMemory>

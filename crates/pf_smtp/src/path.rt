@@ -7,7 +7,7 @@ ghost use Rattle.pf_smtp.specs.Path as path;
 use pf_base::{Bytes, NoMemory, before_byte, behind_byte, is_host_name};
 use std::alloc::Global;
 
-/// A mail address.
+/// A mail address (RFC 5321, 4.1.2): what stands before its at sign, and what stands behind it, as they were given.
 #[derive(Debug, PartialEq, Eq, Drop)]
 pub struct Address {
     pub local: Bytes,

@@ -8,45 +8,61 @@ use pf_base::{Bytes, NoMemory};
 /// The replies to a line that is no command.
 #[derive(Clone, Copy, Debug, PartialEq, Eq)]
 pub enum LineReply {
+    /// It has more than 2,048 bytes.
     TooLong,
+    /// It is empty, or space alone.
     BadSyntax,
+    /// Its verb is none of those that are built.
     NotRecognized,
 }
 
 /// The replies to HELO.
 #[derive(Clone, Copy, Debug, PartialEq, Eq)]
 pub enum HeloReply {
+    /// There is no name.
     NeedsName,
+    /// It was taken.
     Hello,
 }
 
 /// The replies to MAIL.
 #[derive(Clone, Copy, Debug, PartialEq, Eq)]
 pub enum MailReply {
+    /// A transaction is open.
     Nested,
+    /// The argument does not begin with `FROM:`.
     Syntax,
+    /// What follows is no path.
     BadSender,
+    /// The sender was taken.
     Taken,
 }
 
 /// The replies to RCPT.
 #[derive(Debug, PartialEq, Eq, Drop)]
 pub enum RcptReply {
+    /// No transaction is open.
     NeedMail,
+    /// The argument does not begin with `TO:`.
     Syntax,
+    /// What follows is no path.
     BadRecipient,
+    /// The relay list denied this recipient.
     RelayDenied(Address),
+    /// The recipient was accepted.
     Taken,
 }
 
 /// The replies to QUIT.
 #[derive(Clone, Copy, Debug, PartialEq, Eq)]
 pub enum QuitReply {
+    /// There is an argument.
     Syntax,
+    /// The session is over.
     Bye,
 }
 
-/// A reply.
+/// A reply (RFC 5321, 4.2).
 #[derive(Debug, PartialEq, Eq, Drop)]
 pub enum Reply {
     Line(LineReply),

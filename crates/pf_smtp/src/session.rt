@@ -2,8 +2,8 @@
 ghost use Rattle.std.specs.Prelude.{◌≡◌, true, IfOk, OnOk, OnErr};
 ghost use Rattle.std.specs.Io.KnownBytes.{append_known};
 ghost use Rattle.pf_base.specs.Causes.{HasOuterCause};
-ghost use Rattle.pf_base.specs.Told.{Writes};
-ghost use Rattle.pf_smtp.specs.Session.{HasSessionCause, Took, faults, fresh, going_of, told};
+ghost use Rattle.pf_base.specs.Told.{HoldsFront, Writes};
+ghost use Rattle.pf_smtp.specs.Feeding.{HasSessionCause, Took, TookFront, faults, fresh, going_of, told};
 ghost use Rattle.pf_smtp.specs.Text.{greeting_of};
 
 use crate::reply::print_greeting;
@@ -14,18 +14,25 @@ use pf_eval::PlainPolicy;
 use std::alloc::Global;
 use std::marker::Model;
 
-/// Whether a session goes on; it is over once a QUIT was answered, or a fault came.
+/// Whether a session goes on. It is over once a QUIT was answered with 221 (RFC 5321, 4.1.1.10), or a fault came.
 #[derive(Clone, Copy, Debug, PartialEq, Eq)]
 pub enum Going {
+    /// It takes more input.
     More,
+    /// It is over.
     Over,
 }
 
-/// Why a session could not go on; a sink's fault comes only where its count rose.
+/// Why a session could not go on. A sink's fault comes only where its count rose.
 #[derive(Clone, Copy, Debug, PartialEq, Eq)]
 pub enum SessionFault {
+    /// The replies were not written whole.
     Out,
+    /// The record lines were not written whole.
+    Mail,
+    /// The log lines were not written whole.
     Log,
+    /// Memory was wanting.
     NoMemory,
 }
 
@@ -41,24 +48,35 @@ fn write_text<S: Sink>(sink: &mut S, text: &[u8]) -> Result<(), OuterFault>
 }
 
 impl Standing {
-    // Answers a piece, and writes the log lines before the replies: what a client hears is in the log.
-    fn answer<O: Sink, J: Sink>(
+    // Answers a piece. The record is written before the log and that before the replies: what a client hears is in both.
+    fn answer<O: Sink, M: Sink, J: Sink>(
         &mut self,
         alloc: Global,
         piece: &[u8],
         out: &mut O,
+        mail: &mut M,
         log: &mut J,
     ) -> Result<(), SessionFault>
-        ensures took { OnOk result (Took (told (O.written out.old) (J.written log.old)) (told (O.written out.new) (J.written log.new)) self.old self.new piece.now) }
-        ensures cause { HasSessionCause (faults (O.faults out.old) (J.faults log.old)) (faults (O.faults out.new) (J.faults log.new)) result }
+        ensures took { OnOk result (Took (told (O.written out.old) (M.written mail.old) (J.written log.old))
+            (told (O.written out.new) (M.written mail.new) (J.written log.new)) self.old self.new piece.now) }
+        ensures front { OnErr result (TookFront (told (O.written out.old) (M.written mail.old) (J.written log.old))
+            (told (O.written out.new) (M.written mail.new) (J.written log.new)) self.old piece.now) }
+        ensures cause { HasSessionCause (faults (O.faults out.old) (M.faults mail.old) (J.faults log.old))
+            (faults (O.faults out.new) (M.faults mail.new) (J.faults log.new)) result }
     {
         let mut gathered = Gathered {
             out: Bytes::new(alloc),
+            mail: Bytes::new(alloc),
             log: Bytes::new(alloc),
         };
         let Ok(()) = self.take_piece(alloc, piece, &mut gathered) else {
             return Err(SessionFault::NoMemory);
         };
+        match write_text(mail, gathered.mail.as_slice()) {
+            Ok(()) => {}
+            Err(OuterFault::Failed) => return Err(SessionFault::Mail),
+            Err(OuterFault::NoMemory) => return Err(SessionFault::NoMemory),
+        }
         match write_text(log, gathered.log.as_slice()) {
             Ok(()) => {}
             Err(OuterFault::Failed) => return Err(SessionFault::Log),
@@ -73,7 +91,8 @@ impl Standing {
 
     fn greet<O: Sink>(&self, alloc: Global, out: &mut O) -> Result<(), SessionFault>
         ensures out { OnOk result (O.written out.new ≡ append_known (O.written out.old) (greeting_of self.now.setup.host)) }
-        ensures cause { HasSessionCause (faults (O.faults out.old) 0) (faults (O.faults out.new) 0) result }
+        ensures front { OnErr result (HoldsFront (O.written out.old) (O.written out.new) (greeting_of self.now.setup.host)) }
+        ensures cause { HasSessionCause (faults (O.faults out.old) 0 0) (faults (O.faults out.new) 0 0) result }
     {
         let mut text = Bytes::new(alloc);
         let Ok(()) = print_greeting(self.setup.host.as_slice(), &mut text) else {
@@ -102,7 +121,8 @@ impl Model for Session {
 }
 
 impl Session {
-    /// A session of the server of this name with the client of this IPv4 address. It takes no memory.
+    /// A session of the server of this name with the client of this IPv4 address, whose first number is its highest byte.
+    /// It takes no memory.
     pub fn new(alloc: Global, host: Bytes, policy: PlainPolicy, client: u32) -> Session
         ensures { result ≡ fresh (record { host = host; policy = policy; client = client }) }
     {
@@ -123,12 +143,14 @@ impl Session {
         }
     }
 
-    /// Says the greeting (RFC 5321, 4.2); it comes once and first. After a fault the session is over.
+    /// Says the greeting (RFC 5321, 4.2), once and first. After a fault a front of it was written, and the session is over.
     pub fn greet<O: Sink>(&mut self, alloc: Global, out: &mut O) -> Result<(), SessionFault>
+        requires { self.old ≡ fresh self.old.setup }
         ensures out { OnOk result (O.written out.new ≡ append_known (O.written out.old) (greeting_of self.old.setup.host)) }
+        ensures front { OnErr result (HoldsFront (O.written out.old) (O.written out.new) (greeting_of self.old.setup.host)) }
         ensures same { OnOk result (self.new ≡ self.old) }
         ensures over { OnErr result (self.new.state.over ≡ true) }
-        ensures cause { HasSessionCause (faults (O.faults out.old) 0) (faults (O.faults out.new) 0) result }
+        ensures cause { HasSessionCause (faults (O.faults out.old) 0 0) (faults (O.faults out.new) 0 0) result }
     {
         match self.standing.greet(alloc, out) {
             Ok(()) => Ok(()),
@@ -139,21 +161,28 @@ impl Session {
         }
     }
 
-    /// Takes the next piece of the input, of any size, and answers the lines that end in it: the log lines first, then the
-    /// replies, each in one write. Once the session is over, and so after a fault, it writes nothing and answers `Over`.
-    pub fn feed<O: Sink, J: Sink>(
+    /// Takes the next piece of the input, of any size, and answers the lines that end in it: the record lines first, then the
+    /// log lines, then the replies, each in one write. After a fault each sink holds a front of them. Once the session is
+    /// over, and so after a fault, it writes nothing and answers `Over`. No verb of today gives a record line.
+    pub fn feed<O: Sink, M: Sink, J: Sink>(
         &mut self,
         alloc: Global,
         piece: &[u8],
         out: &mut O,
+        mail: &mut M,
         log: &mut J,
     ) -> Result<Going, SessionFault>
-        ensures took { OnOk result (Took (told (O.written out.old) (J.written log.old)) (told (O.written out.new) (J.written log.new)) self.old self.new piece.now) }
+        ensures took { OnOk result (Took (told (O.written out.old) (M.written mail.old) (J.written log.old))
+            (told (O.written out.new) (M.written mail.new) (J.written log.new)) self.old self.new piece.now) }
+        ensures front { OnErr result (TookFront (told (O.written out.old) (M.written mail.old) (J.written log.old))
+            (told (O.written out.new) (M.written mail.new) (J.written log.new)) self.old piece.now) }
+        ensures mail { M.written mail.new ≡ M.written mail.old }
         ensures going { IfOk result (λ going. going ≡ going_of self.new.state) }
         ensures over { OnErr result (self.new.state.over ≡ true) }
-        ensures cause { HasSessionCause (faults (O.faults out.old) (J.faults log.old)) (faults (O.faults out.new) (J.faults log.new)) result }
+        ensures cause { HasSessionCause (faults (O.faults out.old) (M.faults mail.old) (J.faults log.old))
+            (faults (O.faults out.new) (M.faults mail.new) (J.faults log.new)) result }
     {
-        match self.standing.answer(alloc, piece, out, log) {
+        match self.standing.answer(alloc, piece, out, mail, log) {
             Ok(()) => {
                 if self.standing.state.over {
                     Ok(Going::Over)

@@ -1,9 +1,11 @@
 //! Where a session stands between two pieces of its input.
 ghost use Rattle.std.specs.Prelude.{◌≡◌, ◌≤◌, ◌++◌, [], length, take, OnOk};
 ghost use Rattle.std.specs.List.{flat_map};
-ghost use Rattle.pf_smtp.specs.Text.{text_of, log_line};
+ghost use Rattle.pf_smtp.specs.Text.{text_of, record_text, log_line};
 
 use crate::entry::Entry;
+use crate::machine::LINE_LIMIT;
+use crate::record_line::RecordLine;
 use crate::reply::Reply;
 use crate::state::{Answer, Setup, State};
 use pf_base::{Bytes, NoMemory, first_line};
@@ -11,9 +13,9 @@ use std::alloc::Global;
 use std::marker::Model;
 
 // How much of a line is kept: this many bytes tell that it is too long, with its carriage return or without.
-const KEPT: u64 = 2050;
+const KEPT: u64 = LINE_LIMIT as u64 + 2;
 
-/// The front of a line that has not ended: at most 2,050 bytes.
+/// The front of a line that has not ended: at most 2,050 bytes, two more than a line may have.
 #[derive(Debug, Drop)]
 pub struct LineBuffer {
     bytes: Bytes,
@@ -69,10 +71,11 @@ pub struct Standing {
     pub part: LineBuffer,
 }
 
-// The texts of a piece's replies and log lines.
+// The texts of a piece's replies, record lines and log lines.
 #[derive(Debug, Drop)]
 pub(crate) struct Gathered {
     pub(crate) out: Bytes,
+    pub(crate) mail: Bytes,
     pub(crate) log: Bytes,
 }
 
@@ -81,6 +84,15 @@ fn add_replies(out: &mut Bytes, host: &[u8], replies: &[Reply]) -> Result<(), No
 {
     for reply in replies {
         reply.print(host, out)?;
+    }
+    Ok(())
+}
+
+fn add_records(mail: &mut Bytes, records: &[RecordLine]) -> Result<(), NoMemory>
+    ensures { OnOk result (mail.new ≡ mail.old ++ flat_map record_text records.now) }
+{
+    for record in records {
+        record.print(mail)?;
     }
     Ok(())
 }
@@ -97,9 +109,11 @@ fn add_entries(alloc: Global, log: &mut Bytes, entries: &[Entry]) -> Result<(), 
 impl Gathered {
     fn add(&mut self, alloc: Global, host: &[u8], answer: &Answer) -> Result<(), NoMemory>
         ensures out { OnOk result (self.new.out ≡ self.old.out ++ flat_map (text_of host.now) answer.now.replies) }
+        ensures mail { OnOk result (self.new.mail ≡ self.old.mail ++ flat_map record_text answer.now.records) }
         ensures log { OnOk result (self.new.log ≡ self.old.log ++ flat_map log_line answer.now.entries) }
     {
         add_replies(&mut self.out, host, answer.replies.as_slice())?;
+        add_records(&mut self.mail, answer.records.as_slice())?;
         add_entries(alloc, &mut self.log, answer.entries.as_slice())?;
         Ok(())
     }

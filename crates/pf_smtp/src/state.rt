@@ -6,7 +6,7 @@ use crate::reply::Reply;
 use pf_base::{Bytes, List};
 use pf_eval::PlainPolicy;
 
-/// The server's name, its policy, and the client's address.
+/// The server's name, its policy, and the client's IPv4 address, whose first number is its highest byte.
 #[derive(Debug, Drop)]
 pub struct Setup {
     pub host: Bytes,
@@ -14,7 +14,8 @@ pub struct Setup {
     pub client: u32,
 }
 
-/// How many lines there were, the sender of the transaction that is open, and whether the session is over.
+/// How many lines there were, which stays at the greatest u64 once it is there, the sender of the transaction that is open,
+/// and whether the session is over.
 #[derive(Debug, PartialEq, Eq, Drop)]
 pub struct State {
     pub line: u64,

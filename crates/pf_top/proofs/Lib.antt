@@ -1,3 +1,5 @@
 pub mod AddressLemmas
 pub mod OpeningLemmas
+pub mod Rows
+pub mod RunLemmas
 pub mod TalkLemmas

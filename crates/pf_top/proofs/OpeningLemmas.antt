@@ -2,16 +2,17 @@
 use Rattle.std.proofs.Common.{◌≡◌, ℕ, true, false, List, Option, None, Some, refl, codes, if◌then◌else◌}
 use Rattle.std.specs.Prelude.{is_some, option_and_then}
 use Rattle.std.specs.Cmp.Lexicographic.{slice_cmp}
+use Rattle.std.specs.Option.{option_or}
 use Rattle.std.specs.Ordering.{nat_cmp, is_lt}
 use Rattle.pf_base.specs.declared.refused.Cause.TheVariants.{C14}
 use Rattle.pf_base.specs.declared.refused.Refused.{Refused}
 use Rattle.pf_maincf.specs.Settings.{last_setting}
 use Rattle.pf_maincf.specs.declared.setting.Setting.{Setting}
 use Rattle.pf_top.specs.Opening.{values_opened}
-use Rattle.pf_top.specs.Refusals.{◌orelse◌, lesser, names_refusal, refused, relay_refusal, settings_refusal, value_refusal, word_refusal}
+use Rattle.pf_top.specs.Refusals.{lesser, names_refusal, refused, relay_refusal, settings_refusal, value_refusal, word_refusal}
 use Rattle.pf_top.specs.Values.{host_of, hosts_of, nets_of, relay_of}
 
-neither : (a b : Option Refused) → (a orelse b) ≡ None → (a ≡ None) × (b ≡ None)
+neither : (a b : Option Refused) → option_or a b ≡ None → (a ≡ None) × (b ≡ None)
 neither None b e = (refl, e)
 neither (Some r) b e = cc
 

@@ -5,5 +5,6 @@ pub mod OptionsMeant
 pub mod Refusals
 pub mod Run
 pub mod Talk
+pub mod Turns
 pub mod Values
 pub mod Words

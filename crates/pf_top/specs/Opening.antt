@@ -9,13 +9,13 @@ use Rattle.pf_top.specs.Address.{◌>>=◌}
 use Rattle.pf_top.specs.Values.{host_of, hosts_of, nets_of, relay_of}
 use Rattle.pf_top.specs.declared.opening.Opening.{Opening}
 
--- the parameters of the profile
+-- a setting is one of the four parameters
 abbrev pub is_in_profile : Setting → Bool
 is_in_profile setting =
     bytes_eq setting.name (codes "mydestination") || bytes_eq setting.name (codes "myhostname")
     || bytes_eq setting.name (codes "mynetworks") || bytes_eq setting.name (codes "smtpd_relay_restrictions")
 
--- what the value of a parameter is, which is that of its last setting, where it has the form
+-- the value of a parameter, which is that of its last setting, where it has the form
 abbrev pub value_in : {A : Type 0} → List Setting → List ℕ → (List ℕ → Option A) → Option A
 value_in settings name form = option_and_then (λ setting. form setting.value) (last_setting settings name)
 
@@ -28,6 +28,7 @@ values_opened settings = do
   relay ← value_in settings (codes "smtpd_relay_restrictions") relay_of
   Some (record { host = host; policy = record { destinations = destinations; networks = networks; relay = relay } })
 
+-- what a main.cf says whose text was read
 abbrev pub conf_opened : Result Conf ConfFault → Option Opening
 conf_opened (Ok conf) = values_opened conf.settings
 conf_opened (Err fault) = None

@@ -1,82 +1,111 @@
--- What a run leaves, for each of its statuses, which are postgate's own.
-use Rattle.std.specs.Prelude.{◌≡◌, ◌⊎◌, ℕ, ◌==◌, ◌||◌, Bool, List, Option, Some, None, codes}
+-- What a run leaves, for each of its statuses, which are postgate's own, as are the lines that it says of itself.
+use Rattle.std.specs.Prelude.{◌≡◌, ◌⊎◌, ℕ, ◌==◌, ◌||◌, Bool, true, List, Option, Some, None, is_some, codes}
 use Rattle.std.specs.Io.KnownBytes.{append_known}
 use Rattle.pf_base.specs.Causes.{Rose}
 use Rattle.pf_base.specs.FileList.{file_of}
 use Rattle.pf_base.specs.Refusal.{refusal_line}
+use Rattle.pf_base.specs.Told.{HoldsFront}
 use Rattle.pf_base.specs.declared.pair.Pair.{Pair}
 use Rattle.pf_base.specs.declared.refused.Refused.{Refused}
 use Rattle.pf_top.specs.Opening.{file_opened, setup_of}
 use Rattle.pf_top.specs.Refusals.{file_refusal}
-use Rattle.pf_top.specs.Talk.{World, Talks, TalksUntil}
+use Rattle.pf_top.specs.Talk.{World, TalksFront, TalksShort, TalksUntil}
 use Rattle.pf_top.specs.Words.{Options, options_of}
 use Rattle.pf_top.specs.declared.opening.Opening.{Opening}
 use Rattle.pf_top.specs.declared.talk.Ended.{Ended}
 
--- the lines that a run says of itself in the log
+-- how the program is used
 unfoldable pub usage_line : List ℕ
 usage_line = codes "usage: postgate smtpd|relaycheck|postconf|postmap|workload\n"
 
+-- a call on the files failed while main.cf was read
 unfoldable pub read_failed_line : List ℕ
 read_failed_line = codes "postgate: main.cf: read failed\n"
 
--- what main.cf says, where the files tell
-abbrev pub conf_file : List Pair → Option Opening
-conf_file files = file_opened (file_of files (codes "main.cf"))
+-- what the file main.cf says, where the files tell
+abbrev pub opened_in : List Pair → Option Opening
+opened_in files = file_opened (file_of files (codes "main.cf"))
 
--- the first refusal of main.cf, where the files tell
-abbrev pub conf_refusal : List Pair → Option Refused
-conf_refusal files = file_refusal (file_of files (codes "main.cf"))
+-- the first refusal of the file main.cf, where the files tell
+abbrev pub refused_in : List Pair → Option Refused
+refused_in files = file_refusal (file_of files (codes "main.cf"))
 
--- the log took a line, and nothing was taken from the input or written to the output
+-- the log took a line, and nothing was taken from the input or written to the other sinks
 abbrev pub logged : World → List ℕ → World
-logged before line = record before { log = append_known before.log line }
+logged before line = record before { sinks = record before.sinks { log = append_known before.sinks.log line } }
 
--- the words are well-formed, main.cf is accepted, and the session of the bytes that were taken was talked to its end
+-- the words are well-formed and main.cf is accepted: the session that they set up
+pub record Opens (words : List (List ℕ)) (content : Option (List Pair)) : Type 0 where
+  pub options : Options
+  pub opening : Opening
+  pub well_formed : options_of words ≡ Some options
+  pub accepted : (files : List Pair) → content ≡ Some files → (refused_in files ≡ None) × (opened_in files ≡ Some opening)
+
+-- the session of the bytes that were taken was talked to its end
 pub record Served (words : List (List ℕ)) (content : Option (List Pair)) (before now : World) (which : Ended → Type 0) : Type 0 where
-  pub options : Options
-  pub opening : Opening
+  pub opens : Opens words content
   pub how : Ended
-  pub well_formed : options_of words ≡ Some options
-  pub accepted : (files : List Pair) → content ≡ Some files → (conf_refusal files ≡ None) × (conf_file files ≡ Some opening)
   pub ended : which how
-  pub talks : TalksUntil (setup_of opening options.client) before now how
+  pub talks : TalksUntil (setup_of opens.opening opens.options.client) before now how
 
--- the same of a session that was broken off by its input
+-- the session was broken off by its input
 pub record BrokenOff (words : List (List ℕ)) (content : Option (List Pair)) (before now : World) : Type 0 where
-  pub options : Options
-  pub opening : Opening
-  pub well_formed : options_of words ≡ Some options
-  pub accepted : (files : List Pair) → content ≡ Some files → (conf_refusal files ≡ None) × (conf_file files ≡ Some opening)
-  pub talks : Talks (setup_of opening options.client) before now
+  pub opens : Opens words content
+  pub talks : TalksShort (setup_of opens.opening opens.options.client) before now
+
+-- the session was broken off by a sink or by want of memory
+pub record CutOff (words : List (List ℕ)) (content : Option (List Pair)) (before now : World) : Type 0 where
+  pub opens : Opens words content
+  pub talks : TalksFront (setup_of opens.opening opens.options.client) before now
 
 -- the words are of another form, and the log has the usage line
 pub record SaysUsage (words : List (List ℕ)) (before now : World) : Type 0 where
   pub malformed : options_of words ≡ None
   pub said : now ≡ logged before usage_line
 
--- the words are well-formed, main.cf is refused, and the log has the line of its first refusal
-pub record Refuses (words : List (List ℕ)) (content : Option (List Pair)) (before now : World) : Type 0 where
+-- the words are well-formed and main.cf is refused
+pub record IsRefused (words : List (List ℕ)) (content : Option (List Pair)) : Type 0 where
   pub options : Options
   pub refusal : Refused
   pub well_formed : options_of words ≡ Some options
-  pub first : (files : List Pair) → content ≡ Some files → conf_refusal files ≡ Some refusal
-  pub said : now ≡ logged before (refusal_line refusal)
+  pub first : (files : List Pair) → content ≡ Some files → refused_in files ≡ Some refusal
 
--- the counts of faults of the four objects that can fail
+-- main.cf is refused, and the log has the line of its first refusal
+pub record Refuses (words : List (List ℕ)) (content : Option (List Pair)) (before now : World) : Type 0 where
+  pub refused : IsRefused words content
+  pub said : now ≡ logged before (refusal_line refused.refusal)
+
+-- the line that a run without a session says of itself
+abbrev pub IsOwnLine : List (List ℕ) → Option (List Pair) → List ℕ → Type 0
+IsOwnLine words content line =
+    ((options_of words ≡ None) × (line ≡ usage_line))
+    ⊎ ((refused : IsRefused words content) × (line ≡ refusal_line refused.refusal))
+    ⊎ ((is_some (options_of words) ≡ true) × (line ≡ read_failed_line))
+
+-- there was no session, and at most a front of the run's own line was written
+pub record SaysFront (words : List (List ℕ)) (content : Option (List Pair)) (before now : World) : Type 0 where
+  pub line : List ℕ
+  pub is : IsOwnLine words content line
+  pub front : HoldsFront before.sinks.log now.sinks.log line
+  pub rest : now ≡ record before { sinks = record before.sinks { log = now.sinks.log } }
+
+-- the counts of faults of the objects that can fail
 pub record Faults : Type 0 where
   pub input : ℕ
   pub out : ℕ
+  pub mail : ℕ
   pub log : ℕ
   pub files : ℕ
 
-abbrev pub faults : ℕ → ℕ → ℕ → ℕ → Faults
-faults input out log files = record { input = input; out = out; log = log; files = files }
+-- of the input, the output, the record of messages, the log and the files
+abbrev pub faults : ℕ → ℕ → ℕ → ℕ → ℕ → Faults
+faults input out mail log files = record { input = input; out = out; mail = mail; log = log; files = files }
 
 -- no count rose
 pub record NoneRose (before now : Faults) : Type 0 where
   pub input : Rose before.input now.input → ⊥
   pub out : Rose before.out now.out → ⊥
+  pub mail : Rose before.mail now.mail → ⊥
   pub log : Rose before.log now.log → ⊥
   pub files : Rose before.files now.files → ⊥
 
@@ -85,6 +114,14 @@ abbrev pub Completes : Option Refused → ℕ → Type 0
 Completes None status = (status ≡ 0) ⊎ (status ≡ 10) ⊎ (status ≡ 9)
 Completes (Some refusal) status = (status ≡ 3) ⊎ (status ≡ 9)
 
+-- a sink failed or memory was wanting
+abbrev pub is_cut : ℕ → Bool
+is_cut n = n == 5 || n == 6 || n == 7 || n == 9
+
+-- no call on an object failed
+abbrev pub is_without_fault : ℕ → Bool
+is_without_fault n = n == 0 || n == 2 || n == 3 || n == 10
+
 -- the statuses that a run answers
 abbrev pub is_status : ℕ → Bool
-is_status n = n == 0 || n == 2 || n == 3 || n == 4 || n == 5 || n == 7 || n == 8 || n == 9 || n == 10
+is_status n = is_without_fault n || is_cut n || n == 4 || n == 8

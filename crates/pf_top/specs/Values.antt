@@ -2,7 +2,7 @@
 use Rattle.std.specs.Prelude.{ℕ, ◌==◌, ◌||◌, Bool, true, false, nat_lt, List, [], ◌∷◌, Option, Some, None, length, codes, if◌then◌else◌}
 use Rattle.std.specs.List.{filter, list_any, slice_split}
 use Rattle.std.specs.Option.{option_and_then, option_map}
-use Rattle.pf_base.specs.Names.{is_host_name, same_name}
+use Rattle.pf_base.specs.Names.{is_host_name, same_in_any_case}
 use Rattle.pf_base.specs.Space.{is_space}
 use Rattle.pf_eval.specs.Nets.{Net}
 use Rattle.pf_eval.specs.declared.policy.PlainItem.{PlainItem}
@@ -13,6 +13,7 @@ use Rattle.pf_top.specs.Address.{net_of}
 abbrev pub is_separator : ℕ → Bool
 is_separator b = is_space b || b == 44
 
+-- what stands between them, where it is not empty
 abbrev pub items_of : List ℕ → List (List ℕ)
 items_of value = filter (λ item. nat_lt 0 (length item)) (slice_split is_separator value)
 
@@ -21,7 +22,7 @@ abbrev pub all_of : {A : Type 0} → (List ℕ → Option A) → List (List ℕ)
 all_of f [] = Some []
 all_of f (item ∷ items) = option_and_then (λ first. option_map (λ others. first ∷ others) (all_of f items)) (f item)
 
--- one or more
+-- the items, where there is at least one
 abbrev pub one_or_more : {A : Type 0} → List A → Option (List A)
 one_or_more items = if nat_lt 0 (length items) then Some items else None
 
@@ -40,10 +41,11 @@ nets_of value = option_and_then one_or_more (all_of net_of (items_of value))
 -- smtpd_relay_restrictions: restrictions, their words in any case
 unfoldable pub restriction_of : List ℕ → Option PlainItem
 restriction_of word =
-    if same_name word (codes "permit_mynetworks") then Some PermitMynetworks
-    else (if same_name word (codes "reject_unauth_destination") then Some RejectUnauthDestination
+    if same_in_any_case word (codes "permit_mynetworks") then Some PermitMynetworks
+    else (if same_in_any_case word (codes "reject_unauth_destination") then Some RejectUnauthDestination
     else None)
 
+-- a restriction closes the list where it denies strangers
 abbrev pub is_closing : PlainItem → Bool
 is_closing PermitMynetworks = false
 is_closing RejectUnauthDestination = true
@@ -52,5 +54,6 @@ is_closing RejectUnauthDestination = true
 abbrev pub closed_list : List PlainItem → Option (List PlainItem)
 closed_list items = if list_any is_closing items then Some items else None
 
+-- smtpd_relay_restrictions: restrictions that close the list
 unfoldable pub relay_of : List ℕ → Option (List PlainItem)
 relay_of value = option_and_then closed_list (all_of restriction_of (items_of value))

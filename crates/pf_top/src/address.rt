@@ -51,8 +51,8 @@ fn octet_of(text: &[u8]) -> Option<u8>
 }
 
 // The address of four octets, the first one the highest.
-fn address_of_octets(a: &[u8], b: &[u8], c: &[u8], d: &[u8]) -> Option<u32>
-    ensures { result ≡ address.address_of_octets (a.now ∷ b.now ∷ c.now ∷ d.now ∷ []) }
+fn ipv4_of_octets(a: &[u8], b: &[u8], c: &[u8], d: &[u8]) -> Option<u32>
+    ensures { result ≡ address.ipv4_of_octets (a.now ∷ b.now ∷ c.now ∷ d.now ∷ []) }
 {
     let w = octet_of(a)?;
     let x = octet_of(b)?;
@@ -63,9 +63,9 @@ fn address_of_octets(a: &[u8], b: &[u8], c: &[u8], d: &[u8]) -> Option<u32>
 }
 
 /// The address of four octets parted by dots; None where the text is none.
-#[tactic(auto, unfolding(crate::specs::Address::address_of))]
-pub(crate) fn address_of(text: &[u8]) -> Option<u32>
-    ensures { result ≡ address.address_of text.now }
+#[tactic(auto, unfolding(crate::specs::Address::ipv4_of))]
+pub(crate) fn ipv4_of(text: &[u8]) -> Option<u32>
+    ensures { result ≡ address.ipv4_of text.now }
 {
     match cut_at(text, b'.') {
         None => None,
@@ -74,7 +74,7 @@ pub(crate) fn address_of(text: &[u8]) -> Option<u32>
             Some((b, behind)) => match cut_at(behind, b'.') {
                 None => None,
                 Some((c, d)) => match cut_at(d, b'.') {
-                    None => address_of_octets(a, b, c, d),
+                    None => ipv4_of_octets(a, b, c, d),
                     Some(_) => None,
                 },
             },
@@ -98,7 +98,7 @@ fn net_with(addr: u32, prefix: u8) -> Option<PlainNet>
 pub(crate) fn net_of(text: &[u8]) -> Option<PlainNet>
     ensures { result ≡ address.net_of text.now }
 {
-    let addr = address_of(before_byte(text, b'/'))?;
+    let addr = ipv4_of(before_byte(text, b'/'))?;
     let prefix = octet_of(behind_byte(text, b'/'))?;
     net_with(addr, prefix)
 }

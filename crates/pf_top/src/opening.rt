@@ -16,7 +16,7 @@ use std::alloc::Global;
 /// The name of the file.
 pub(crate) const MAIN_CF: &str = "main.cf";
 
-/// The server's name and its policy.
+/// What an accepted main.cf says: the server's name and its policy (postconf(5)).
 #[derive(Debug, Drop)]
 pub struct Opening {
     pub host: Bytes,

@@ -32,7 +32,7 @@ pub(crate) fn refused(
     })
 }
 
-// Of two refusals the one whose name is less in byte order; of one name the second.
+// Of two refusals the one whose name is less in byte order.
 fn lesser(first: Option<Refused>, second: Option<Refused>) -> Option<Refused>
     ensures { result ≡ refusals.lesser first second }
 {
@@ -51,28 +51,46 @@ fn lesser(first: Option<Refused>, second: Option<Refused>) -> Option<Refused>
     }
 }
 
-fn outside_refusal(alloc: Global, setting: &Setting) -> Result<Option<Refused>, NoMemory>
-    ensures { IfOk result (λ refusal. refusal ≡ refusals.outside_refusal setting.now) }
+// The lesser of two names, in byte order.
+fn lesser_name<'a>(first: &'a [u8], second: &'a [u8]) -> &'a [u8]
+    ensures { result.now ≡ refusals.lesser_name first.now second.now }
 {
-    if is_in_profile(setting) {
-        return Ok(None);
+    if second.cmp(first).is_lt() {
+        second
+    } else {
+        first
     }
-    let refusal = refused(alloc, setting.line, Cause::C14, setting.name.as_slice())?;
-    Ok(Some(refusal))
+}
+
+// The least in byte order of the names outside the profile.
+fn least_outside(settings: &[Setting]) -> Option<&[u8]>
+    ensures { option_copied result ≡ refusals.least (refusals.names_outside settings.now) }
+{
+    let mut least: Option<&[u8]> = None;
+    for setting in settings {
+        if !is_in_profile(setting) {
+            let name = setting.name.as_slice();
+            least = match least {
+                None => Some(name),
+                Some(least) => Some(lesser_name(least, name)),
+            };
+        }
+    }
+    least
 }
 
 // Of the names outside the profile the least in byte order, at the line of its last setting.
-fn names_refusal(alloc: Global, settings: &[Setting]) -> Result<Option<Refused>, NoMemory>
-    ensures { IfOk result (λ refusal. refusal ≡ refusals.names_refusal settings.now) }
+fn names_refusal(alloc: Global, conf: &MainCf) -> Result<Option<Refused>, NoMemory>
+    ensures { IfOk result (λ refusal. refusal ≡ refusals.names_refusal conf.now.settings) }
 {
-    let mut least = None;
-    let mut behind = settings.len();
-    'settings: while behind > 0 {
-        behind -= 1;
-        let refusal = outside_refusal(alloc, &settings[behind])?;
-        least = lesser(refusal, least);
-    }
-    Ok(least)
+    let Some(name) = least_outside(conf.settings().as_slice()) else {
+        return Ok(None);
+    };
+    let Some(setting) = conf.last(name) else {
+        return Ok(None);
+    };
+    let refusal = refused(alloc, setting.line, Cause::C14, name)?;
+    Ok(Some(refusal))
 }
 
 // A parameter that has no value of its form, with the setting that was looked at.
@@ -142,7 +160,7 @@ fn parameters_refusal(alloc: Global, conf: &MainCf) -> Result<Option<Refused>, N
     let destination = destination_refusal(alloc, conf)?;
     let host = host_refusal(alloc, conf)?;
     let networks = networks_refusal(alloc, conf)?;
-    let names = names_refusal(alloc, conf.settings().as_slice())?;
+    let names = names_refusal(alloc, conf)?;
     Ok(lesser(destination, lesser(host, lesser(networks, names))))
 }
 

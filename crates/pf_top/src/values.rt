@@ -6,7 +6,7 @@ ghost use Rattle.pf_top.specs.Values as values;
 
 use crate::address::net_of;
 use crate::items::items_in;
-use pf_base::{Bytes, List, NoMemory, is_host_name, same_name};
+use pf_base::{Bytes, List, NoMemory, is_host_name, same_in_any_case};
 use pf_eval::{PlainItem, PlainNet};
 use std::alloc::Global;
 
@@ -53,9 +53,9 @@ fn all_nets(alloc: Global, items: &[Bytes]) -> Result<Option<List<PlainNet>>, No
 pub(crate) fn restriction_of(word: &[u8]) -> Option<PlainItem>
     ensures { result ≡ values.restriction_of word.now }
 {
-    if same_name(word, b"permit_mynetworks") {
+    if same_in_any_case(word, b"permit_mynetworks") {
         Some(PlainItem::PermitMynetworks)
-    } else if same_name(word, b"reject_unauth_destination") {
+    } else if same_in_any_case(word, b"reject_unauth_destination") {
         Some(PlainItem::RejectUnauthDestination)
     } else {
         None

@@ -5,7 +5,7 @@ ghost use Rattle.std.specs.String.{string_bytes};
 ghost use Rattle.pf_top.specs.OptionsMeant.{options_meant};
 ghost use Rattle.pf_top.specs.Words as spec;
 
-use crate::address::address_of;
+use crate::address::ipv4_of;
 use pf_base::NoMemory;
 use std::alloc::Global;
 
@@ -30,7 +30,7 @@ fn options_with<'a>(client: &str, mail: &'a str) -> Option<Options<'a>>
     if !(is_value(client) && is_value(mail)) {
         return None;
     }
-    let client = address_of(client.as_bytes())?;
+    let client = ipv4_of(client.as_bytes())?;
     Some(Options { client, mail })
 }
 
@@ -54,7 +54,7 @@ pub(crate) fn options_of(words: &[String]) -> Option<Options<'_>>
     }
 }
 
-/// The files that a command names for its sinks.
+/// The names of the files that a command gives to its record of messages and its log.
 #[derive(Clone, Copy, Debug, PartialEq, Eq)]
 pub struct SinkNames<'a> {
     pub mail: Option<&'a str>,

@@ -1,5 +1,6 @@
-use Rattle.std.proofs.Common.{sym, ◌∙◌, take}
-use Rattle.pf_top.proofs.TalkLemmas.{going_more, going_over}
+use Rattle.std.proofs.Common.{List, Option, ℕ, ap, sym, ◌∙◌, take}
+use Rattle.pf_top.specs.Talk.{world}
+use Rattle.pf_top.proofs.TalkLemmas.{front_of_nothing, going_more, going_over}
 use Rattle.pf_top.proofs.talk.take_turn.Goals as goal
 
 pub returns-in-Ok-More-clause-turn : goal.returns-in-Ok-More-clause-turn
@@ -19,3 +20,7 @@ returns-in-Ok-Over-clause-turn g c = (
   },
   going_over _ (sym c.in-Ok-Over.field-0-is ∙ c.in-Ok-Over.ensures.going),
 )
+
+pub returns-in_default-clause-front : goal.returns-in_default-clause-front
+returns-in_default-clause-front g c =
+    front_of_nothing c.args.session.now _ (ap (λ (left : Option (List ℕ)). world left (g.O.Sink.written c.args.out.now) (g.M.Sink.written c.args.mail.now) (g.J.Sink.written c.args.log.now)) c.in_default.ensures.bytes)

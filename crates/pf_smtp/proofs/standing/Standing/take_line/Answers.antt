@@ -6,6 +6,7 @@ returns c =
     let given = rw (c.as_slice.ensures, c.in_ok-keep.ensures, step_kept) at c.in_ok-answer.ensures in
     record {
       out = rw (c.as_slice-2.ensures, given.replies) at c.in_ok-add.ensures.out;
+      mail = rw given.records at c.in_ok-add.ensures.mail;
       log = rw given.entries at c.in_ok-add.ensures.log;
       standing = rw (given.state, c.clear.ensures);
     }

@@ -1,0 +1,261 @@
+-- Worked examples of the definitions, each by computation.
+use Rattle.std.proofs.Common.{◌≡◌, ℕ, ◌-◌, ◌^◌, ◌++◌, Bool, true, false, List, [], ◌∷◌, Option, None, Some, Ok, Err, refl, codes}
+use Rattle.pf_base.specs.Causes.{counted}
+use Rattle.pf_base.specs.FileList.{file_of, whole_file, with_file}
+use Rattle.pf_base.specs.Gathering.{followed_by}
+use Rattle.pf_base.specs.Heard.{marked, next_mark, next_outcome}
+use Rattle.pf_base.specs.Lines.{lines, onto_line, rest, unless_line, without_return}
+use Rattle.pf_base.specs.Logical.{Physical, grouped, is_ignored, logical_lines_of, physical_lines, starts_with_space}
+use Rattle.pf_base.specs.Memory.{fails_next, greatest_read}
+use Rattle.pf_base.specs.Names.{folded, is_host_name, is_label, is_label_byte, same_in_any_case}
+use Rattle.pf_base.specs.Questions.{done, look, try, ◌>>=◌}
+use Rattle.pf_base.specs.Refusal.{cause_text, name_part, printable, refusal_line}
+use Rattle.std.specs.Fmt.{digits}
+use Rattle.pf_base.specs.Space.{is_space, trimmed, without_leading_space, without_trailing_space}
+use Rattle.pf_base.specs.declared.links.LinkStep.TheVariants.{Connect, Send}
+use Rattle.pf_base.specs.declared.links.Outcome.{Outcome}
+use Rattle.pf_base.specs.declared.links.Outcome.TheVariants.{Down, Reply}
+use Rattle.pf_base.specs.declared.logical.Logical.{Logical}
+use Rattle.pf_base.specs.declared.logical.TextFault.TheVariants.{Continuation}
+use Rattle.pf_base.specs.declared.pair.Pair.{Pair}
+use Rattle.pf_base.specs.declared.refused.Cause.TheVariants.{C2, C14}
+
+-- a count
+count_rises : counted 0 ≡ 1
+count_rises = refl
+
+count_stays : counted 18446744073709551615 ≡ 18446744073709551615
+count_stays = refl
+
+-- lines
+two_lines : lines (codes "HELO a\r\nQUIT\n") ≡ codes "HELO a\r" ∷ codes "QUIT" ∷ []
+two_lines = refl
+
+no_line_end : lines (codes "QUIT") ≡ []
+no_line_end = refl
+
+empty_line : lines (codes "\n\nQ") ≡ [] ∷ [] ∷ []
+empty_line = refl
+
+joins_first_line : onto_line (codes "QU") (codes "IT" ∷ codes "HELO" ∷ []) ≡ codes "QUIT" ∷ codes "HELO" ∷ []
+joins_first_line = refl
+
+joins_no_line : onto_line (codes "QU") [] ≡ []
+joins_no_line = refl
+
+behind_last_line : rest (codes "HELO a\nQU") ≡ codes "QU"
+behind_last_line = refl
+
+behind_line_end : rest (codes "QUIT\n") ≡ []
+behind_line_end = refl
+
+all_is_rest : rest (codes "QUIT") ≡ codes "QUIT"
+all_is_rest = refl
+
+belongs_to_no_line : unless_line [] (codes "QU") (codes "IT") ≡ codes "QU"
+belongs_to_no_line = refl
+
+belongs_to_a_line : unless_line (codes "HELO" ∷ []) (codes "QU") (codes "IT") ≡ codes "IT"
+belongs_to_a_line = refl
+
+one_return_is_dropped : without_return (codes "QUIT\r\r") ≡ codes "QUIT\r"
+one_return_is_dropped = refl
+
+return_inside_stays : without_return (codes "QU\rIT") ≡ codes "QU\rIT"
+return_inside_stays = refl
+
+return_of_empty_line : without_return [] ≡ []
+return_of_empty_line = refl
+
+-- logical lines
+comment_is_ignored : is_ignored (codes " \t# x") ≡ true
+comment_is_ignored = refl
+
+space_is_ignored : is_ignored (codes "  ") ≡ true
+space_is_ignored = refl
+
+setting_is_not_ignored : is_ignored (codes "a = b # c") ≡ false
+setting_is_not_ignored = refl
+
+tab_starts_with_space : starts_with_space (codes "\tb") ≡ true
+tab_starts_with_space = refl
+
+text_starts_without_space : starts_with_space (codes "b ") ≡ false
+text_starts_without_space = refl
+
+nothing_starts_without_space : starts_with_space [] ≡ false
+nothing_starts_without_space = refl
+
+numbered_lines : physical_lines (codes "a\r\nb") ≡ record { number = 1; text = codes "a" } ∷ record { number = 2; text = codes "b" } ∷ []
+numbered_lines = refl
+
+line_behind_last_end : physical_lines (codes "a\n") ≡ record { number = 1; text = codes "a" } ∷ record { number = 2; text = [] } ∷ []
+line_behind_last_end = refl
+
+continued_over_a_comment : logical_lines_of (codes "a = b,\n# c\n d\ne = f\n")
+    ≡ Ok (record { line = 1; last = 3; text = codes "a = b, d" } ∷ record { line = 4; last = 4; text = codes "e = f" } ∷ [])
+continued_over_a_comment = refl
+
+continues_nothing : logical_lines_of (codes "# c\n\n a = b\n") ≡ Err (Continuation 3)
+continues_nothing = refl
+
+no_logical_line : logical_lines_of (codes "\n# c\n") ≡ Ok []
+no_logical_line = refl
+
+leading_lines : (grouped (record { number = 1; text = codes " a" } ∷ record { number = 2; text = codes "b" } ∷ [])).leading
+    ≡ record { number = 1; text = codes " a" } ∷ []
+leading_lines = refl
+
+line_behind_an_open_one : (followed_by [] (Some (record { line = 1; last = 1; text = codes "a" }))
+    (record { leading = record { number = 2; text = codes " b" } ∷ []; logical = [] })).logical ≡ record { line = 1; last = 2; text = codes "a b" } ∷ []
+line_behind_an_open_one = refl
+
+-- space
+tab_is_space : is_space 9 ≡ true
+tab_is_space = refl
+
+return_is_no_space : is_space 13 ≡ false
+return_is_no_space = refl
+
+space_at_the_front : without_leading_space (codes "\t a b ") ≡ codes "a b "
+space_at_the_front = refl
+
+space_at_the_end : without_trailing_space (codes " a b\t ") ≡ codes " a b"
+space_at_the_end = refl
+
+space_at_both_ends : trimmed (codes "\ta b  ") ≡ codes "a b"
+space_at_both_ends = refl
+
+space_alone : trimmed (codes " \t ") ≡ []
+space_alone = refl
+
+-- names
+underscore_in_a_label : is_label_byte 95 ≡ true
+underscore_in_a_label = refl
+
+dot_in_no_label : is_label_byte 46 ≡ false
+dot_in_no_label = refl
+
+longest_label : is_label (codes "abcdefghijklmnopqrstuvwxyzabcdefghijklmnopqrstuvwxyz01234567890") ≡ true
+longest_label = refl
+
+label_too_long : is_label (codes "abcdefghijklmnopqrstuvwxyzabcdefghijklmnopqrstuvwxyz012345678901") ≡ false
+label_too_long = refl
+
+empty_label : is_label [] ≡ false
+empty_label = refl
+
+host_name : is_host_name (codes "mx-1.example.com") ≡ true
+host_name = refl
+
+closing_dot : is_host_name (codes "example.com.") ≡ false
+closing_dot = refl
+
+two_dots : is_host_name (codes "mx..example.com") ≡ false
+two_dots = refl
+
+either_case : same_in_any_case (codes "Example.COM") (codes "example.com") ≡ true
+either_case = refl
+
+other_name : same_in_any_case (codes "example.com") (codes "example.org") ≡ false
+other_name = refl
+
+folded_letters : folded (codes "A[Z") ≡ codes "a[z"
+folded_letters = refl
+
+-- files
+abbrev files : List Pair
+files = record { key = codes "a"; value = codes "1" } ∷ record { key = codes "b"; value = codes "2" } ∷ []
+
+file_there : file_of files (codes "b") ≡ Some (codes "2")
+file_there = refl
+
+file_absent : file_of files (codes "B") ≡ None
+file_absent = refl
+
+file_replaced : with_file files (codes "b") (codes "3") ≡ record { key = codes "a"; value = codes "1" } ∷ record { key = codes "b"; value = codes "3" } ∷ []
+file_replaced = refl
+
+file_added : with_file [] (codes "c") (codes "4") ≡ record { key = codes "c"; value = codes "4" } ∷ []
+file_added = refl
+
+whole_file_absent : whole_file None ≡ Ok None
+whole_file_absent = refl
+
+whole_file_there : whole_file (Some (codes "ab")) ≡ Ok (Some (codes "ab"))
+whole_file_there = refl
+
+-- calls in memory
+second_call_fails : fails_next (record { failing = 2 ∷ []; made = 1; faults = 0 }) ≡ true
+second_call_fails = refl
+
+first_call_does_not : fails_next (record { failing = 2 ∷ []; made = 0; faults = 0 }) ≡ false
+first_call_does_not = refl
+
+size_of_second_read : greatest_read (7 ∷ 13 ∷ []) 2 ≡ 13
+size_of_second_read = refl
+
+last_size_is_repeated : greatest_read (7 ∷ 13 ∷ []) 9 ≡ 13
+last_size_is_repeated = refl
+
+size_of_none_counts_as_one : greatest_read (0 ∷ []) 1 ≡ 1
+size_of_none_counts_as_one = refl
+
+-- refusals
+control_byte : printable 10 ≡ 63
+control_byte = refl
+
+high_byte : printable 228 ≡ 228
+high_byte = refl
+
+named_part : name_part (codes "a\nb") ≡ codes ": a?b"
+named_part = refl
+
+no_name : name_part [] ≡ []
+no_name = refl
+
+text_of_a_cause : cause_text C14 ≡ codes "C14 setting outside the profile"
+unfolding cause_text
+text_of_a_cause = refl
+
+line_with_a_name : refusal_line (record { file = codes "main.cf"; line = 12; cause = C14; name = codes "mydomain" })
+    ≡ codes "postgate: main.cf:12: C14 setting outside the profile: mydomain\n"
+unfolding refusal_line cause_text digits
+line_with_a_name = refl
+
+line_without_a_name : refusal_line (record { file = codes "main.cf"; line = 5; cause = C2; name = [] }) ≡ codes "postgate: main.cf:5: C2 no equals sign\n"
+unfolding refusal_line cause_text digits
+line_without_a_name = refl
+
+-- what is heard
+first_mark : next_mark (true ∷ false ∷ []) ≡ (true, false ∷ [])
+first_mark = refl
+
+past_the_marks : next_mark [] ≡ (false, [])
+past_the_marks = refl
+
+past_the_outcomes : next_outcome [] ≡ (Down Connect, [])
+past_the_outcomes = refl
+
+marked_lookups : marked (true ∷ false ∷ true ∷ []) ≡ 2
+marked_lookups = refl
+
+-- questions: a lookup that fails, one past the marks, and a try before a lookup that fails
+abbrev marks_of : ℕ → Bool → ℕ × Bool
+marks_of n mark = (n, mark)
+
+a_lookup_that_fails : look marks_of 7 (record { marks = true ∷ []; outcomes = [] }) ≡ ((7, true), record { marks = []; outcomes = [] })
+unfolding look
+a_lookup_that_fails = refl
+
+a_lookup_past_the_marks : look marks_of 7 (record { marks = []; outcomes = [] }) ≡ ((7, false), record { marks = []; outcomes = [] })
+unfolding look
+a_lookup_past_the_marks = refl
+
+abbrev with_mark : Outcome → ℕ → Bool → Outcome × Bool
+with_mark outcome n mark = (outcome, mark)
+
+two_in_turn : (try >>= λ outcome. look (with_mark outcome)) 7 (record { marks = true ∷ []; outcomes = Down Send ∷ Reply [] ∷ [] })
+    ≡ ((Down Send, true), record { marks = []; outcomes = Reply [] ∷ [] })
+unfolding look try ◌>>=◌
+two_in_turn = refl
