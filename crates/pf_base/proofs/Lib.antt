@@ -1,3 +1,4 @@
+pub mod BraceLemmas
 pub mod CutLemmas
 pub mod FileListLemmas
 pub mod LedLaws

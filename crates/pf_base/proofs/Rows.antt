@@ -1,5 +1,6 @@
 -- Worked examples of the definitions, each by computation.
 use Rattle.std.proofs.Common.{◌≡◌, ℕ, ◌-◌, ◌^◌, ◌++◌, Bool, true, false, List, [], ◌∷◌, Option, None, Some, Ok, Err, refl, codes}
+use Rattle.pf_base.specs.Braces.{lone_brace, partner}
 use Rattle.pf_base.specs.Causes.{counted}
 use Rattle.pf_base.specs.FileList.{file_of, whole_file, with_file}
 use Rattle.pf_base.specs.Gathering.{followed_by}
@@ -12,6 +13,8 @@ use Rattle.pf_base.specs.Questions.{done, look, try, ◌>>=◌}
 use Rattle.pf_base.specs.Refusal.{cause_text, name_part, printable, refusal_line}
 use Rattle.std.specs.Fmt.{digits}
 use Rattle.pf_base.specs.Space.{is_space, trimmed, without_leading_space, without_trailing_space}
+use Rattle.pf_base.specs.TableTexts.{place_of, place_or_next, with_text}
+use Rattle.pf_base.specs.Words.{words_of}
 use Rattle.pf_base.specs.declared.links.LinkStep.TheVariants.{Connect, Send}
 use Rattle.pf_base.specs.declared.links.Outcome.{Outcome}
 use Rattle.pf_base.specs.declared.links.Outcome.TheVariants.{Down, Reply}
@@ -19,6 +22,8 @@ use Rattle.pf_base.specs.declared.logical.Logical.{Logical}
 use Rattle.pf_base.specs.declared.logical.TextFault.TheVariants.{Continuation}
 use Rattle.pf_base.specs.declared.pair.Pair.{Pair}
 use Rattle.pf_base.specs.declared.refused.Cause.TheVariants.{C2, C14}
+use Rattle.pf_base.specs.declared.table_texts.TableText.{TableText}
+use Rattle.pf_base.specs.declared.words.WordsFault.TheVariants.{Unbalanced}
 
 -- a count
 count_rises : counted 0 ≡ 1
@@ -259,3 +264,51 @@ two_in_turn : (try >>= λ outcome. look (with_mark outcome)) 7 (record { marks =
     ≡ ((Down Send, true), record { marks = []; outcomes = Reply [] ∷ [] })
 unfolding look try ◌>>=◌
 two_in_turn = refl
+
+-- braces
+partner_of_a_brace : partner 0 (codes "a{b}c}d") ≡ Some 5
+partner_of_a_brace = refl
+
+no_partner : partner 0 (codes "a{b}") ≡ None
+no_partner = refl
+
+first_lone_brace : lone_brace 0 (codes "{a}{b{c}") ≡ Some 3
+first_lone_brace = refl
+
+lone_closing_brace : lone_brace 0 (codes "{a}} {") ≡ Some 3
+lone_closing_brace = refl
+
+no_lone_brace : lone_brace 0 (codes "{{}}{}") ≡ None
+no_lone_brace = refl
+
+-- words
+words_by_separators : words_of (codes " a, b\tc\nd ,") ≡ Ok (codes "a" ∷ codes "b" ∷ codes "c" ∷ codes "d" ∷ [])
+unfolding words_of
+words_by_separators = refl
+
+words_with_braces : words_of (codes "inline:{a=1, b=2} x{y z}w, v") ≡ Ok (codes "inline:{a=1, b=2}" ∷ codes "x{y z}w" ∷ codes "v" ∷ [])
+unfolding words_of
+words_with_braces = refl
+
+no_words : words_of (codes " ,\n") ≡ Ok []
+unfolding words_of
+no_words = refl
+
+words_of_a_lone_brace : words_of (codes "a, {b") ≡ Err (Unbalanced 3)
+unfolding words_of
+words_of_a_lone_brace = refl
+
+-- table texts
+abbrev text_at : ℕ → List ℕ → TableText
+text_at line text = record { line = line; text = text }
+
+a_new_text : with_text (text_at 2 (codes "cdb:a") ∷ []) (place_of (text_at 2 (codes "cdb:a") ∷ []) (codes "cdb:b")) 5 (codes "cdb:b")
+    ≡ text_at 2 (codes "cdb:a") ∷ text_at 5 (codes "cdb:b") ∷ []
+a_new_text = refl
+
+a_text_that_is_there : with_text (text_at 2 (codes "cdb:a") ∷ []) (place_of (text_at 2 (codes "cdb:a") ∷ []) (codes "cdb:a")) 5 (codes "cdb:a")
+    ≡ text_at 2 (codes "cdb:a") ∷ []
+a_text_that_is_there = refl
+
+place_of_the_next : place_or_next (text_at 2 (codes "cdb:a") ∷ []) (place_of (text_at 2 (codes "cdb:a") ∷ []) (codes "cdb:b")) ≡ 1
+place_of_the_next = refl

@@ -1,3 +1,4 @@
+pub mod Braces
 pub mod Causes
 pub mod FileList
 pub mod FileParts
@@ -11,6 +12,8 @@ pub mod Names
 pub mod Questions
 pub mod Refusal
 pub mod Space
+pub mod TableTexts
 pub mod Told
 pub mod Tries
 pub mod Unless
+pub mod Words

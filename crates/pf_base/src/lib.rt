@@ -1,10 +1,12 @@
 //! What every layer of postgate stands on: lists that contracts see as lists, the traits to the outside with
-//! their forms in memory, faults and their causes, refusals, and the lines of a text.
+//! their forms in memory, faults and their causes, refusals, and the lines and words of a text.
 #![tactic(auto)]
 
+mod braces;
 mod bytes;
 mod cuts;
 mod fault;
+mod keys;
 mod lines;
 mod links;
 mod list;
@@ -17,14 +19,18 @@ mod pair;
 mod reading;
 mod refused;
 mod space;
+mod table_texts;
+mod words;
 
+pub use braces::closing_brace;
 pub use bytes::Bytes;
 pub use cuts::{before_byte, behind_byte, cut_at};
 pub use fault::{Failed, NoMemory, OuterFault};
+pub use keys::fold;
 pub use lines::{first_line, without_return};
 pub use links::{LinkStep, Outcome};
 pub use list::List;
-pub use logical::{Logical, TextFault, logical_lines};
+pub use logical::{Logical, TextFault, is_ignored, logical_lines, starts_with_space};
 pub use memory::{MemFiles, MemSink, MemSource};
 pub use names::{is_host_name, same_in_any_case};
 pub use numbers::decimal;
@@ -33,3 +39,5 @@ pub use pair::Pair;
 pub use reading::{FILE_LIMIT, ReadFault, read_all};
 pub use refused::{Cause, ConfFault, Refused};
 pub use space::{is_space, trimmed, without_leading_space};
+pub use table_texts::{Specs, TableId};
+pub use words::{WordsFault, words_of};

@@ -1,5 +1,5 @@
 //! A list of items of one type.
-ghost use Rattle.std.specs.Prelude.{◌≡◌, ◌<◌, List as Seq, [], ◌∷◌, ◌++◌, length, slice_get, slice_set, Some, OnOk, OnErr};
+ghost use Rattle.std.specs.Prelude.{◌≡◌, ◌<◌, List as Seq, [], ◌∷◌, ◌++◌, length, slice_get, slice_set, Some, IfSome, IfNone, OnOk, OnErr};
 
 use crate::fault::NoMemory;
 use std::alloc::Global;
@@ -58,6 +58,14 @@ impl<T: Drop> List<T> {
     {
         self.items.push(item)?;
         Ok(())
+    }
+
+    /// Takes the last item away; None where there is none.
+    pub fn pop(&mut self) -> Option<T>
+        ensures some { IfSome result (λ item. self.old ≡ self.new ++ item ∷ []) }
+        ensures none { IfNone result ((self.old ≡ []) × (self.new ≡ [])) }
+    {
+        self.items.pop()
     }
 
     /// Puts an item in the place of the one at `i`, counted from 0.

@@ -33,8 +33,9 @@ pub enum TextFault {
     NoMemory,
 }
 
-// Whether a line is empty, all space, or a comment.
-fn is_ignored(text: &[u8]) -> bool
+/// Whether a physical line counts for nothing: it is empty, all space, or a comment, whose first byte past space is `#`
+/// (postconf(5), main.cf format).
+pub fn is_ignored(text: &[u8]) -> bool
     ensures { result ≡ spec.is_ignored text.now }
 {
     match without_leading_space(text) {
@@ -43,7 +44,8 @@ fn is_ignored(text: &[u8]) -> bool
     }
 }
 
-fn starts_with_space(text: &[u8]) -> bool
+/// Whether a physical line that is not ignored continues the one before it (postconf(5), main.cf format).
+pub fn starts_with_space(text: &[u8]) -> bool
     ensures { result ≡ spec.starts_with_space text.now }
 {
     match text {

@@ -1,10 +1,12 @@
 -- Worked examples of the definitions, each by computation.
-use Rattle.std.proofs.Common.{◌≡◌, [], ◌∷◌, None, Some, Ok, Err, refl, codes}
+use Rattle.std.proofs.Common.{◌≡◌, [], ◌∷◌, None, Some, Ok, Err, List, ℕ, true, false, map, refl, codes}
+use Rattle.std.specs.List.{list_all}
 use Rattle.pf_base.specs.declared.logical.Logical.{Logical}
 use Rattle.pf_base.specs.declared.logical.TextFault.TheVariants.{Continuation, NoMemory as TextNoMemory}
-use Rattle.pf_base.specs.declared.refused.Cause.TheVariants.{C1, C2}
+use Rattle.pf_base.specs.declared.refused.Cause.TheVariants.{C1, C2, C3}
 use Rattle.pf_base.specs.declared.refused.ConfFault.TheVariants.{Refused, NoMemory}
-use Rattle.pf_maincf.specs.Settings.{before, conf_of, conf_with, last_setting, or_refused, refused, setting_of, settings_of, settings_of_lines}
+use Rattle.pf_maincf.specs.Edit.{AreSets, differ, edited, is_ended, is_set, marked, placed, set_line}
+use Rattle.pf_maincf.specs.Settings.{before, conf_of, conf_with, is_name, is_name_byte, last_setting, or_refused, refused, setting_of, settings_of, settings_of_lines}
 use Rattle.pf_maincf.specs.declared.setting.Setting.{Setting}
 
 -- two settings, and a line without an equals sign
@@ -39,6 +41,20 @@ number_sign_is_a_plain_byte = refl
 no_equals_sign : setting_of bare ≡ None
 no_equals_sign = refl
 
+-- names
+names : list_all is_name (codes "myhostname" ∷ codes "a" ∷ codes "smtpd_recipient_restrictions" ∷
+    codes "127.0.0.1:25_x" ∷ codes "#a" ∷ codes "!~" ∷ []) ≡ true
+names = refl
+
+bad_names : map is_name ([] ∷ codes "a b" ∷ codes "a\tb" ∷ codes "$a" ∷ codes "a{" ∷ codes "}a" ∷
+    codes "(a" ∷ codes "a)" ∷ (97 ∷ 127 ∷ []) ∷ (195 ∷ 164 ∷ []) ∷ (97 ∷ 0 ∷ []) ∷ [])
+    ≡ false ∷ false ∷ false ∷ false ∷ false ∷ false ∷ false ∷ false ∷ false ∷ false ∷ false ∷ []
+bad_names = refl
+
+bytes_of_names : map is_name_byte (32 ∷ 33 ∷ 126 ∷ 127 ∷
+    36 ∷ 40 ∷ 41 ∷ 123 ∷ 124 ∷ 125 ∷ []) ≡ false ∷ true ∷ true ∷ false ∷ false ∷ false ∷ false ∷ false ∷ true ∷ false ∷ []
+bytes_of_names = refl
+
 -- refusals
 names_nothing : refused (codes "main.cf") 5 C2 ≡ Refused (record { file = codes "main.cf"; line = 5; cause = C2; name = [] })
 names_nothing = refl
@@ -65,6 +81,10 @@ refusal_before_a_fault : or_refused (codes "main.cf") bare None (Err NoMemory)
     ≡ Err (Refused (record { file = codes "main.cf"; line = 5; cause = C2; name = [] }))
 refusal_before_a_fault = refl
 
+bad_name : or_refused (codes "main.cf") bare (Some (record { line = 5; name = []; value = codes "1" })) (Ok (second ∷ []))
+    ≡ Err (Refused (record { file = codes "main.cf"; line = 5; cause = C3; name = [] }))
+bad_name = refl
+
 -- settings of logical lines
 no_line : settings_of (codes "main.cf") [] ≡ Ok []
 no_line = refl
@@ -78,6 +98,14 @@ first_bare_line : settings_of (codes "main.cf")
     (record { line = 1; last = 1; text = codes "a=1" } ∷ bare ∷ record { line = 7; last = 7; text = codes "c" } ∷ [])
     ≡ Err (Refused (record { file = codes "main.cf"; line = 5; cause = C2; name = [] }))
 first_bare_line = refl
+
+bad_name_before_a_bare_line : settings_of (codes "main.cf") (record { line = 1; last = 1; text = codes "a b = 1" } ∷ bare ∷ [])
+    ≡ Err (Refused (record { file = codes "main.cf"; line = 1; cause = C3; name = [] }))
+bad_name_before_a_bare_line = refl
+
+bare_line_before_a_bad_name : settings_of (codes "main.cf") (bare ∷ record { line = 7; last = 7; text = codes "= 1" } ∷ [])
+    ≡ Err (Refused (record { file = codes "main.cf"; line = 5; cause = C2; name = [] }))
+bare_line_before_a_bad_name = refl
 
 -- settings of lines or their fault
 lines_there : settings_of_lines (codes "main.cf") (Ok (record { line = 1; last = 1; text = codes "a=1" } ∷ [])) ≡ Ok (first ∷ [])
@@ -132,6 +160,16 @@ first_of_two_bare_lines : conf_of (codes "main.cf") (codes "a = b\n\nc\nd\n")
 unfolding conf_of
 first_of_two_bare_lines = refl
 
+no_name_is_refused : conf_of (codes "main.cf") (codes "a = 1\n\n= b\n")
+    ≡ Err (Refused (record { file = codes "main.cf"; line = 3; cause = C3; name = [] }))
+unfolding conf_of
+no_name_is_refused = refl
+
+name_in_two_lines_is_refused : conf_of (codes "main.cf") (codes "a\n b = c\n")
+    ≡ Err (Refused (record { file = codes "main.cf"; line = 1; cause = C3; name = [] }))
+unfolding conf_of
+name_in_two_lines_is_refused = refl
+
 -- the setting that counts
 last_one_counts : last_setting (first ∷ second ∷ record { line = 3; name = codes "a"; value = codes "3" } ∷ []) (codes "a")
     ≡ Some (record { line = 3; name = codes "a"; value = codes "3" })
@@ -145,3 +183,102 @@ capital_is_another_name = refl
 
 none_is_set : last_setting [] (codes "a") ≡ None
 none_is_set = refl
+
+-- settings that an edit writes
+abbrev set_to : List ℕ → List ℕ → Setting
+set_to name value = record { line = 7; name = name; value = value }
+
+sets_of_one_line : list_all is_set (set_to (codes "a") (codes "1, 2") ∷ set_to (codes "a#") [] ∷ set_to (codes "a") (codes "b = #c") ∷ []) ≡ true
+sets_of_one_line = refl
+
+no_sets_of_one_line : map is_set
+    (set_to [] (codes "1") ∷ set_to (codes "a b") (codes "1") ∷ set_to (codes "a=") (codes "1") ∷ set_to (codes "#a") (codes "1") ∷ set_to (codes "a") (codes " 1")
+    ∷ set_to (codes "a") (codes "1\t") ∷ set_to (codes "a") (codes "1\n2") ∷ set_to (codes "a") (codes "1\r") ∷ [])
+    ≡ false ∷ false ∷ false ∷ false ∷ false ∷ false ∷ false ∷ false ∷ []
+no_sets_of_one_line = refl
+
+all_differ : differ (codes "a" ∷ codes "A" ∷ codes "b" ∷ []) ≡ true
+all_differ = refl
+
+two_alike : differ (codes "a" ∷ codes "b" ∷ codes "a" ∷ []) ≡ false
+two_alike = refl
+
+two_sets : AreSets (set_to (codes "a") (codes "1") ∷ set_to (codes "b") [] ∷ [])
+two_sets = record { each = refl; once = refl }
+
+line_of_a_set : set_line (set_to (codes "a") (codes "1 2")) ≡ codes "a = 1 2\n"
+line_of_a_set = refl
+
+line_of_an_empty_value : set_line (set_to (codes "a") []) ≡ codes "a =\n"
+line_of_an_empty_value = refl
+
+-- where a set stands
+at_the_last_of_its_name : placed (first ∷ second ∷ record { line = 3; name = codes "a"; value = codes "3" } ∷ []) (set_to (codes "a") (codes "4"))
+    ≡ record { line = 3; name = codes "a"; value = codes "4" }
+at_the_last_of_its_name = refl
+
+nowhere : placed (first ∷ second ∷ []) (set_to (codes "c") (codes "4")) ≡ record { line = 0; name = codes "c"; value = codes "4" }
+nowhere = refl
+
+-- the lines of a text
+lines_marked : marked 0 1 (codes "# top" ∷ codes "a = 1" ∷ codes "\t2\r" ∷ codes " # mid" ∷ codes "b = 3" ∷ []) []
+    ≡ record { begun = 0; line = codes "# top"; feed = codes "\n" } ∷ record { begun = 2; line = codes "a = 1"; feed = codes "\n" }
+    ∷ record { begun = 2; line = codes "\t2\r"; feed = codes "\n" } ∷ record { begun = 2; line = codes " # mid"; feed = codes "\n" }
+    ∷ record { begun = 5; line = codes "b = 3"; feed = codes "\n" } ∷ record { begun = 5; line = []; feed = [] } ∷ []
+lines_marked = refl
+
+ended_texts : map is_ended ([] ∷ codes "a\n" ∷ codes "\n\n" ∷ codes "a" ∷ codes "a\nb" ∷ codes "a\n\r" ∷ [])
+    ≡ true ∷ true ∷ true ∷ false ∷ false ∷ false ∷ []
+ended_texts = refl
+
+-- edits
+abbrev relay_domains : Setting
+relay_domains = set_to (codes "relay_domains") (codes "example.org")
+
+continued_setting_with_a_comment_inside : edited (codes "main.cf")
+    (codes "# top\nrelay_domains = example.net\n  , example.org\n# mid\nmyhostname = mx.example.com\n") (relay_domains ∷ [])
+    ≡ Ok (codes "# top\nrelay_domains = example.org\n# mid\nmyhostname = mx.example.com\n")
+unfolding edited conf_of
+continued_setting_with_a_comment_inside = refl
+
+ignored_lines_come_behind : edited (codes "main.cf") (codes "a = 1\n # c\n 2\n \t\n\n 3\nb = 4\n") (set_to (codes "a") (codes "5") ∷ [])
+    ≡ Ok (codes "a = 5\n # c\n \t\n\nb = 4\n")
+unfolding edited conf_of
+ignored_lines_come_behind = refl
+
+last_of_a_name_gives_way : edited (codes "main.cf") (codes "a = 1\nb = 2\na = 3\nb = 4\n") (set_to (codes "a") (codes "5") ∷ [])
+    ≡ Ok (codes "a = 1\nb = 2\na = 5\nb = 4\n")
+unfolding edited conf_of
+last_of_a_name_gives_way = refl
+
+returns_stay_where_nothing_is_set : edited (codes "main.cf") (codes "a = 1\r\n 2\r\n\r\nb = 3\r\n") (set_to (codes "a") (codes "5") ∷ [])
+    ≡ Ok (codes "a = 5\n\r\nb = 3\r\n")
+unfolding edited conf_of
+returns_stay_where_nothing_is_set = refl
+
+no_last_line_feed : edited (codes "main.cf") (codes "a = 1\nb = 2") (set_to (codes "a") (codes "5") ∷ []) ≡ Ok (codes "a = 5\nb = 2")
+unfolding edited conf_of
+no_last_line_feed = refl
+
+last_line_gives_way : edited (codes "main.cf") (codes "a = 1\nb = 2") (set_to (codes "b") [] ∷ []) ≡ Ok (codes "a = 1\nb =\n")
+unfolding edited conf_of
+last_line_gives_way = refl
+
+new_names_behind_a_line_feed : edited (codes "main.cf") (codes "a = 1\n# c")
+    (set_to (codes "c") (codes "3") ∷ set_to (codes "a") (codes "2") ∷ set_to (codes "b") [] ∷ [])
+    ≡ Ok (codes "a = 2\n# c\nc = 3\nb =\n")
+unfolding edited conf_of
+new_names_behind_a_line_feed = refl
+
+empty_text : edited (codes "main.cf") [] (set_to (codes "a") (codes "1") ∷ []) ≡ Ok (codes "a = 1\n")
+unfolding edited conf_of
+empty_text = refl
+
+nothing_set : edited (codes "main.cf") (codes "a=1\r\n  \n 2") [] ≡ Ok (codes "a=1\r\n  \n 2")
+unfolding edited conf_of
+nothing_set = refl
+
+refused_text_is_not_edited : edited (codes "main.cf") (codes "a = 1\nb\n") (set_to (codes "a") (codes "5") ∷ [])
+    ≡ Err (Refused (record { file = codes "main.cf"; line = 2; cause = C2; name = [] }))
+unfolding edited conf_of
+refused_text_is_not_edited = refl

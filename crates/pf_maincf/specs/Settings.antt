@@ -1,6 +1,6 @@
 -- The settings of a main.cf (postconf(5), main.cf format).
-use Rattle.std.specs.Prelude.{ℕ, ◌+◌, ◌==◌, ◌++◌, List, [], ◌∷◌, Option, None, Some, Result, Ok, Err, reverse, take, drop}
-use Rattle.std.specs.List.{find, position}
+use Rattle.std.specs.Prelude.{ℕ, ◌+◌, ◌==◌, ◌++◌, ◌&&◌, ◌||◌, Bool, not, nat_le, nat_lt, List, [], ◌∷◌, Option, None, Some, Result, Ok, Err, length, reverse, take, drop, if◌then◌else◌}
+use Rattle.std.specs.List.{find, list_all, position}
 use Rattle.std.specs.Option.{option_map}
 use Rattle.std.specs.Str.{bytes_eq}
 use Rattle.pf_base.specs.Logical.{logical_lines_of}
@@ -9,7 +9,7 @@ use Rattle.pf_base.specs.declared.logical.Logical.{Logical}
 use Rattle.pf_base.specs.declared.logical.TextFault.{TextFault}
 use Rattle.pf_base.specs.declared.logical.TextFault.TheVariants.{Continuation, NoMemory as TextNoMemory}
 use Rattle.pf_base.specs.declared.refused.Cause.{Cause}
-use Rattle.pf_base.specs.declared.refused.Cause.TheVariants.{C1, C2}
+use Rattle.pf_base.specs.declared.refused.Cause.TheVariants.{C1, C2, C3}
 use Rattle.pf_base.specs.declared.refused.ConfFault.{ConfFault}
 use Rattle.pf_base.specs.declared.refused.ConfFault.TheVariants.{Refused, NoMemory}
 use Rattle.pf_maincf.specs.declared.setting.Setting.{Setting}
@@ -25,6 +25,14 @@ setting_of logical =
     option_map (λ i. record { line = logical.line; name = trimmed (take i logical.text); value = trimmed (drop (i + 1) logical.text) })
     (position (λ b. b == 61) logical.text)
 
+-- a printing byte that is no blank, and none of those that a value writes names with: dollar sign, braces and parentheses
+abbrev pub is_name_byte : ℕ → Bool
+is_name_byte b = nat_le 33 b && nat_le b 126 && not (b == 36 || b == 40 || b == 41 || b == 123 || b == 125)
+
+-- a parameter's name: which bytes it may hold is postgate's own
+abbrev pub is_name : List ℕ → Bool
+is_name name = nat_lt 0 (length name) && list_all is_name_byte name
+
 -- a refusal that names nothing
 abbrev pub refused : List ℕ → ℕ → Cause → ConfFault
 refused file line cause = Refused (record { file = file; line = line; cause = cause; name = [] })
@@ -34,10 +42,11 @@ abbrev pub before : List Setting → Result (List Setting) ConfFault → Result 
 before front (Ok settings) = Ok (front ++ settings)
 before front (Err fault) = Err fault
 
--- the setting of a line before those behind it, or the refusal of a line without an equals sign
+-- the setting of a line before those behind it, or the refusal of a line without an equals sign or with a bad name
 abbrev pub or_refused : List ℕ → Logical → Option Setting → Result (List Setting) ConfFault → Result (List Setting) ConfFault
 or_refused file logical None behind = Err (refused file logical.line C2)
-or_refused file logical (Some setting) behind = before (setting ∷ []) behind
+or_refused file logical (Some setting) behind =
+    if is_name setting.name then before (setting ∷ []) behind else Err (refused file logical.line C3)
 
 -- the settings of logical lines in order
 abbrev pub settings_of : List ℕ → List Logical → Result (List Setting) ConfFault

@@ -1,8 +1,11 @@
 //! main.cf: its settings in order (postconf(5)).
 #![tactic(auto)]
 
+mod edit;
 mod maincf;
+mod sets;
 mod setting;
 
 pub use maincf::MainCf;
-pub use setting::Setting;
+pub use sets::{are_sets, is_set};
+pub use setting::{Setting, is_name};

@@ -5,7 +5,7 @@ ghost use Rattle.pf_base.specs.Unless.{Unless};
 ghost use Rattle.pf_maincf.specs.Settings as settings;
 ghost use Rattle.pf_maincf.specs.Settings.{conf_of, last_setting};
 
-use crate::setting::{Setting, setting_of};
+use crate::setting::{Setting, is_name, setting_of};
 use pf_base::{
     Bytes, Cause, ConfFault, List, Logical, NoMemory, Refused, TextFault, logical_lines,
 };
@@ -50,6 +50,9 @@ fn settings_of(alloc: Global, file: &[u8], lines: &[Logical]) -> Result<List<Set
     for logical in lines {
         match setting_of(alloc, logical) {
             Ok(Some(setting)) => {
+                if !is_name(setting.name.as_slice()) {
+                    return Err(refused(alloc, file, logical.line, Cause::C3));
+                }
                 let Ok(()) = settings.push(setting) else {
                     return Err(ConfFault::NoMemory);
                 };
@@ -63,7 +66,8 @@ fn settings_of(alloc: Global, file: &[u8], lines: &[Logical]) -> Result<List<Set
 
 impl MainCf {
     /// The settings of a main.cf with this name and this text (postconf(5), main.cf format). Where its first line that is not
-    /// ignored starts with space, it is refused as C1, else at its first logical line without an equals sign as C2.
+    /// ignored starts with space, it is refused as C1, else at its first logical line that has no equals sign, as C2, or whose
+    /// name is none, as C3.
     pub fn read(alloc: Global, file: &[u8], text: &[u8]) -> Result<MainCf, ConfFault>
         ensures { Unless result ConfFault.NoMemory (λ r. r ≡ conf_of file.now text.now) }
     {

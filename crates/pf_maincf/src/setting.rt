@@ -1,6 +1,6 @@
 //! A setting of main.cf.
 ghost use Rattle.std.specs.Prelude.{◌≡◌, ◌==◌, IfOk};
-ghost use Rattle.std.specs.List.{position};
+ghost use Rattle.std.specs.List.{list_all, position};
 ghost use Rattle.pf_maincf.specs.Settings as settings;
 
 use pf_base::{Bytes, Logical, NoMemory, trimmed};
@@ -12,6 +12,26 @@ pub struct Setting {
     pub line: u64,
     pub name: Bytes,
     pub value: Bytes,
+}
+
+fn is_name_byte(b: u8) -> bool
+    ensures { result ≡ settings.is_name_byte b }
+{
+    33 <= b && b <= 126 && !(b == b'$' || b == b'(' || b == b')' || b == b'{' || b == b'}')
+}
+
+fn has_name_bytes(name: &[u8]) -> bool
+    ensures { result ≡ list_all settings.is_name_byte name.now }
+{
+    name.iter().all(|b| is_name_byte(*b))
+}
+
+/// Whether a text is a parameter's name: not empty, of bytes from 33 to 126, and none of them `$`, `{`, `}`, `(` or `)`
+/// (postconf(5); which bytes a name may hold is postgate's own).
+pub fn is_name(name: &[u8]) -> bool
+    ensures { result ≡ settings.is_name name.now }
+{
+    0 < name.len() && has_name_bytes(name)
 }
 
 // The place of the first equals sign.

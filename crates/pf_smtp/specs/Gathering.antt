@@ -1,7 +1,9 @@
 -- What a line and a piece of the input add to the texts that a session has to write. Words of the code's contracts, between its loop over
 -- a piece and the session.
 use Rattle.std.specs.Prelude.{◌≡◌, ℕ, ◌++◌, false, List, []}
-use Rattle.pf_smtp.specs.Feeding.{given, part_behind}
+use Rattle.std.specs.Io.KnownBytes.{append_known}
+use Rattle.pf_base.specs.Told.{HoldsFront}
+use Rattle.pf_smtp.specs.Feeding.{Told, given, part_behind}
 use Rattle.pf_smtp.specs.Session.{replies_text, records_text, log_text}
 use Rattle.pf_smtp.specs.Step.{Step, step}
 use Rattle.pf_smtp.specs.declared.standing.Gathered.{Gathered}
@@ -35,3 +37,15 @@ pub record ComesDownTo (before now : Gathered) (old new : Standing) (piece left 
   pub setup : new.setup ≡ old.setup
   pub state : (given old piece).next ≡ (given new left).next
   pub part : part_behind old piece ≡ part_behind new left
+
+-- what was gathered was written
+pub record Wrote (before now : Told) (gathered : Gathered) : Type 0 where
+  pub out : now.out ≡ append_known before.out gathered.out
+  pub mail : now.mail ≡ append_known before.mail gathered.mail
+  pub log : now.log ≡ append_known before.log gathered.log
+
+-- each sink holds a front of what was gathered for it
+pub record WroteFront (before now : Told) (gathered : Gathered) : Type 0 where
+  pub out : HoldsFront before.out now.out gathered.out
+  pub mail : HoldsFront before.mail now.mail gathered.mail
+  pub log : HoldsFront before.log now.log gathered.log

@@ -4,6 +4,7 @@ ghost use Rattle.std.specs.Io.KnownBytes.{append_known};
 ghost use Rattle.pf_base.specs.Causes.{HasOuterCause};
 ghost use Rattle.pf_base.specs.Told.{HoldsFront, Writes};
 ghost use Rattle.pf_smtp.specs.Feeding.{HasSessionCause, Took, TookFront, faults, fresh, going_of, told};
+ghost use Rattle.pf_smtp.specs.Gathering.{Wrote, WroteFront};
 ghost use Rattle.pf_smtp.specs.Text.{greeting_of};
 
 use crate::reply::print_greeting;
@@ -47,8 +48,40 @@ fn write_text<S: Sink>(sink: &mut S, text: &[u8]) -> Result<(), OuterFault>
     sink.write(text)
 }
 
+// Writes what was gathered for a piece: the record before the log and that before the replies, so that what a client hears
+// is in both.
+fn write_gathered<O: Sink, M: Sink, J: Sink>(
+    gathered: &Gathered,
+    out: &mut O,
+    mail: &mut M,
+    log: &mut J,
+) -> Result<(), SessionFault>
+    ensures wrote { OnOk result (Wrote (told (O.written out.old) (M.written mail.old) (J.written log.old))
+        (told (O.written out.new) (M.written mail.new) (J.written log.new)) gathered.now) }
+    ensures front { OnErr result (WroteFront (told (O.written out.old) (M.written mail.old) (J.written log.old))
+        (told (O.written out.new) (M.written mail.new) (J.written log.new)) gathered.now) }
+    ensures cause { HasSessionCause (faults (O.faults out.old) (M.faults mail.old) (J.faults log.old))
+        (faults (O.faults out.new) (M.faults mail.new) (J.faults log.new)) result }
+{
+    match write_text(mail, gathered.mail.as_slice()) {
+        Ok(()) => {}
+        Err(OuterFault::Failed) => return Err(SessionFault::Mail),
+        Err(OuterFault::NoMemory) => return Err(SessionFault::NoMemory),
+    }
+    match write_text(log, gathered.log.as_slice()) {
+        Ok(()) => {}
+        Err(OuterFault::Failed) => return Err(SessionFault::Log),
+        Err(OuterFault::NoMemory) => return Err(SessionFault::NoMemory),
+    }
+    match write_text(out, gathered.out.as_slice()) {
+        Ok(()) => Ok(()),
+        Err(OuterFault::Failed) => Err(SessionFault::Out),
+        Err(OuterFault::NoMemory) => Err(SessionFault::NoMemory),
+    }
+}
+
 impl Standing {
-    // Answers a piece. The record is written before the log and that before the replies: what a client hears is in both.
+    // Answers a piece.
     fn answer<O: Sink, M: Sink, J: Sink>(
         &mut self,
         alloc: Global,
@@ -72,21 +105,7 @@ impl Standing {
         let Ok(()) = self.take_piece(alloc, piece, &mut gathered) else {
             return Err(SessionFault::NoMemory);
         };
-        match write_text(mail, gathered.mail.as_slice()) {
-            Ok(()) => {}
-            Err(OuterFault::Failed) => return Err(SessionFault::Mail),
-            Err(OuterFault::NoMemory) => return Err(SessionFault::NoMemory),
-        }
-        match write_text(log, gathered.log.as_slice()) {
-            Ok(()) => {}
-            Err(OuterFault::Failed) => return Err(SessionFault::Log),
-            Err(OuterFault::NoMemory) => return Err(SessionFault::NoMemory),
-        }
-        match write_text(out, gathered.out.as_slice()) {
-            Ok(()) => Ok(()),
-            Err(OuterFault::Failed) => Err(SessionFault::Out),
-            Err(OuterFault::NoMemory) => Err(SessionFault::NoMemory),
-        }
+        write_gathered(&gathered, out, mail, log)
     }
 
     fn greet<O: Sink>(&self, alloc: Global, out: &mut O) -> Result<(), SessionFault>

@@ -1,4 +1,5 @@
 pub mod AddressLemmas
+pub mod CauseLemmas
 pub mod OpeningLemmas
 pub mod Rows
 pub mod RunLemmas

@@ -287,17 +287,26 @@ no_equals_sign : said (text ++ codes "a\n b\nmydomain = c\n") ≡ Some (codes "p
 unfolding file_refusal conf_of refusal_line cause_text digits
 no_equals_sign = refl
 
-other_name : said (text ++ codes "my\u{7f} = a\n") ≡ Some (codes "postgate: main.cf:5: C14 setting outside the profile: my?\n")
+other_name : said (text ++ codes "mydomain = a\n") ≡ Some (codes "postgate: main.cf:5: C14 setting outside the profile: mydomain\n")
 unfolding file_refusal conf_of settings_refusal host_of hosts_of nets_of net_of ipv4_of octet_of refusal_line cause_text digits
 other_name = refl
 
-setting_without_a_name : said (text ++ codes "= a\n") ≡ Some (codes "postgate: main.cf:5: C14 setting outside the profile\n")
-unfolding file_refusal conf_of settings_refusal host_of hosts_of nets_of net_of ipv4_of octet_of refusal_line cause_text digits
+bad_name : said (text ++ codes "my\u{7f} = a\nb\n") ≡ Some (codes "postgate: main.cf:5: C3 bad name\n")
+unfolding file_refusal conf_of refusal_line cause_text digits
+bad_name = refl
+
+setting_without_a_name : said (text ++ codes "= a\n") ≡ Some (codes "postgate: main.cf:5: C3 bad name\n")
+unfolding file_refusal conf_of refusal_line cause_text digits
 setting_without_a_name = refl
 
 empty_text : said [] ≡ Some (codes "postgate: main.cf:0: C14 setting outside the profile: mydestination\n")
 unfolding file_refusal conf_of settings_refusal refusal_line cause_text digits
 empty_text = refl
+
+control_byte_in_a_word : said (text ++ codes "smtpd_relay_restrictions = a\u{7f}\n") ≡ Some (codes "postgate: main.cf:5: C7 unknown restriction: a?\n")
+unfolding file_refusal conf_of settings_refusal host_of hosts_of nets_of net_of ipv4_of octet_of relay_of restriction_of refusal_line
+    cause_text digits
+control_byte_in_a_word = refl
 
 unknown_restriction : said (text ++ codes "smtpd_relay_restrictions = a\n") ≡ Some (codes "postgate: main.cf:5: C7 unknown restriction: a\n")
 unfolding file_refusal conf_of settings_refusal host_of hosts_of nets_of net_of ipv4_of octet_of relay_of restriction_of refusal_line

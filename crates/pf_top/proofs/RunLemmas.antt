@@ -8,7 +8,7 @@ use Rattle.pf_base.specs.declared.pair.Pair.{Pair}
 use Rattle.pf_base.specs.declared.refused.Refused.{Refused}
 use Rattle.pf_top.specs.Opened.{IsOpened}
 use Rattle.pf_top.specs.Opening.{setup_of}
-use Rattle.pf_top.specs.Run.{BrokenOff, CutOff, IsRefused, Opens, Refuses, SaysFront, Served, logged, opened_in, read_failed_line, refused_in}
+use Rattle.pf_top.specs.Run.{BrokenOff, CutOff, IsRefused, Opens, Refuses, SaysFront, Served, ended_status, fault_status, logged, opened_in, read_failed_line, refused_in}
 use Rattle.pf_top.specs.Talk.{World, TalksFront, TalksShort, TalksUntil}
 use Rattle.pf_top.specs.Words.{Options, options_of}
 use Rattle.pf_top.specs.declared.opening.Opened.{Opened}
@@ -16,6 +16,8 @@ use Rattle.pf_top.specs.declared.opening.Opened.TheVariants as opened
 use Rattle.pf_top.specs.declared.opening.Opening.{Opening}
 use Rattle.pf_top.specs.declared.talk.Ended.{Ended}
 use Rattle.pf_top.specs.declared.talk.Ended.TheVariants as ended
+use Rattle.pf_top.specs.declared.talk.TalkFault.{TalkFault}
+use Rattle.pf_top.specs.declared.talk.TalkFault.TheVariants as fault
 
 -- main.cf was accepted
 abbrev pub opens : (words : List (List ℕ)) (content : Option (List Pair)) (options : Options) (opening : Opening) (answer : Opened)
@@ -39,11 +41,23 @@ is_refused words content options refusal answer formed is told = record {
   first = λ files e. rw is at (told files e);
 }
 
-pub at_end : ended.AtEnd ≢ ended.AtBudget
-at_end e = cc
+-- what a status says of how a session came to its end, and of its fault
+pub done_is : (how : Ended) → ended_status how ≡ 0 → how ≢ ended.AtBudget
+done_is ended.AtEnd done e = cc
+done_is ended.AtOver done e = cc
+done_is ended.AtBudget done e = cc
 
-pub at_over : ended.AtOver ≢ ended.AtBudget
-at_over e = cc
+pub budget_is : (how : Ended) → ended_status how ≡ 10 → how ≡ ended.AtBudget
+budget_is ended.AtEnd at = cc
+budget_is ended.AtOver at = cc
+budget_is ended.AtBudget at = refl
+
+pub input_is : (why : TalkFault) → fault_status why ≡ 4 → why ≡ fault.Input
+input_is fault.Input is = refl
+input_is fault.Out is = cc
+input_is fault.Mail is = cc
+input_is fault.Log is = cc
+input_is fault.NoMemory is = cc
 
 -- nothing was written, since memory was wanting before
 pub says_nothing : (words : List (List ℕ)) (content : Option (List Pair)) (before : World) (options : Options) → Some options ≡ options_of words

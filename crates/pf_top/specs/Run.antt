@@ -13,6 +13,9 @@ use Rattle.pf_top.specs.Talk.{World, TalksFront, TalksShort, TalksUntil}
 use Rattle.pf_top.specs.Words.{Options, options_of}
 use Rattle.pf_top.specs.declared.opening.Opening.{Opening}
 use Rattle.pf_top.specs.declared.talk.Ended.{Ended}
+use Rattle.pf_top.specs.declared.talk.Ended.TheVariants as ended
+use Rattle.pf_top.specs.declared.talk.TalkFault.{TalkFault}
+use Rattle.pf_top.specs.declared.talk.TalkFault.TheVariants as fault
 
 -- how the program is used
 unfoldable pub usage_line : List ℕ
@@ -113,6 +116,19 @@ pub record NoneRose (before now : Faults) : Type 0 where
 abbrev pub Completes : Option Refused → ℕ → Type 0
 Completes None status = (status ≡ 0) ⊎ (status ≡ 10) ⊎ (status ≡ 9)
 Completes (Some refusal) status = (status ≡ 3) ⊎ (status ≡ 9)
+
+-- the status of a session by how it came to its end, and by the fault that broke it off
+abbrev pub ended_status : Ended → ℕ
+ended_status ended.AtEnd = 0
+ended_status ended.AtOver = 0
+ended_status ended.AtBudget = 10
+
+abbrev pub fault_status : TalkFault → ℕ
+fault_status fault.Input = 4
+fault_status fault.Out = 5
+fault_status fault.Mail = 6
+fault_status fault.Log = 7
+fault_status fault.NoMemory = 9
 
 -- a sink failed or memory was wanting
 abbrev pub is_cut : ℕ → Bool

@@ -7,6 +7,7 @@ ghost use Rattle.pf_base.specs.Refusal.{refusal_line};
 ghost use Rattle.pf_base.specs.Told.{HoldsFront};
 ghost use Rattle.pf_base.specs.declared.pair.Pair.{Pair};
 ghost use Rattle.pf_top.specs.Opened.{IsOpened};
+ghost use Rattle.pf_top.specs.Run as run;
 ghost use Rattle.pf_top.specs.Run.{BrokenOff, Completes, CutOff, NoneRose, Refuses, SaysFront, SaysUsage, Served, faults, is_cut, is_status, is_without_fault, logged, opened_in, read_failed_line, refused_in, usage_line};
 ghost use Rattle.pf_top.specs.Talk.{world};
 ghost use Rattle.pf_top.specs.Words.{options_of};
@@ -117,6 +118,30 @@ fn say_read_failed<J: Sink>(log: &mut J) -> u8
     }
 }
 
+// The status of a session that came to its end.
+fn ended_status(ended: Ended) -> u8
+    ensures { result ≡ run.ended_status ended }
+{
+    match ended {
+        Ended::AtEnd => DONE,
+        Ended::AtOver => DONE,
+        Ended::AtBudget => AT_BUDGET,
+    }
+}
+
+// The status of a session that was broken off.
+fn fault_status(fault: TalkFault) -> u8
+    ensures { result ≡ run.fault_status fault }
+{
+    match fault {
+        TalkFault::Input => INPUT_FAILED,
+        TalkFault::Out => OUT_FAILED,
+        TalkFault::Mail => MAIL_FAILED,
+        TalkFault::Log => LOG_FAILED,
+        TalkFault::NoMemory => NO_MEMORY,
+    }
+}
+
 /// Runs a command: `words` are the program's words without its own name. The session's bytes come from `input`, the
 /// replies go to `out`, the record of messages to `mail`, the decisions to `log`, and main.cf is read from `files`.
 /// It answers the exit status: 0 done, 2 the words are of another form, 3 main.cf is not accepted, 9 no memory,
@@ -186,13 +211,7 @@ pub fn run<S: Source, O: Sink, M: Sink, J: Sink, F: Files>(
         Err(OpenFault::NoMemory) => return NO_MEMORY,
     };
     match talk(alloc, opening, options.client, input, out, mail, log) {
-        Ok(Ended::AtEnd) => DONE,
-        Ok(Ended::AtOver) => DONE,
-        Ok(Ended::AtBudget) => AT_BUDGET,
-        Err(TalkFault::Input) => INPUT_FAILED,
-        Err(TalkFault::Out) => OUT_FAILED,
-        Err(TalkFault::Mail) => MAIL_FAILED,
-        Err(TalkFault::Log) => LOG_FAILED,
-        Err(TalkFault::NoMemory) => NO_MEMORY,
+        Ok(ended) => ended_status(ended),
+        Err(fault) => fault_status(fault),
     }
 }

@@ -51,7 +51,7 @@ const TABLE: &[(&str, &str, &str, u8, &str)] = &[
         "",
         "x\n# c\n\ty = 1\n",
         3,
-        "postgate: main.cf:5: C14 setting outside the profile: x?y\n",
+        "postgate: main.cf:5: C3 bad name\n",
     ),
     (
         "mydomain = example.com\n",
@@ -73,7 +73,28 @@ const TABLE: &[(&str, &str, &str, u8, &str)] = &[
         "",
         "",
         3,
-        "postgate: main.cf:1: C14 setting outside the profile\n",
+        "postgate: main.cf:1: C3 bad name\n",
+    ),
+    (
+        "",
+        "",
+        "a = 1\nb$ = 1\nc\n",
+        3,
+        "postgate: main.cf:6: C3 bad name\n",
+    ),
+    (
+        "",
+        "",
+        "a\n(b) = 1\n",
+        3,
+        "postgate: main.cf:5: C2 no equals sign\n",
+    ),
+    (
+        "",
+        "",
+        "smtpd_relay_restrictions = a\x01b\n",
+        3,
+        "postgate: main.cf:5: C7 unknown restriction: a?b\n",
     ),
     (
         "MyHostname = h\n",

@@ -1,5 +1,6 @@
 use Rattle.std.proofs.Common.{List, Option, ℕ, ap, sym, ◌∙◌, take}
 use Rattle.pf_top.specs.Talk.{world}
+use Rattle.pf_top.proofs.CauseLemmas.{cause_log, cause_mail, cause_memory, cause_ok, cause_out}
 use Rattle.pf_top.proofs.TalkLemmas.{front_of_nothing, going_more, going_over}
 use Rattle.pf_top.proofs.talk.take_turn.Goals as goal
 
@@ -24,3 +25,21 @@ returns-in-Ok-Over-clause-turn g c = (
 pub returns-in_default-clause-front : goal.returns-in_default-clause-front
 returns-in_default-clause-front g c =
     front_of_nothing c.args.session.now _ (ap (λ (left : Option (List ℕ)). world left (g.O.Sink.written c.args.out.now) (g.M.Sink.written c.args.mail.now) (g.J.Sink.written c.args.log.now)) c.in_default.ensures.bytes)
+
+pub returns-in-Ok-More-clause-cause : goal.returns-in-Ok-More-clause-cause
+returns-in-Ok-More-clause-cause g c = cause_ok _ _ _ _ _ _ c.in-Ok.ensures.cause.kept c.in-Ok-More.ensures.cause
+
+pub returns-in-Ok-Over-clause-cause : goal.returns-in-Ok-Over-clause-cause
+returns-in-Ok-Over-clause-cause g c = cause_ok _ _ _ _ _ _ c.in-Ok.ensures.cause.kept c.in-Ok-Over.ensures.cause
+
+pub returns-in-Err-Out-clause-cause : goal.returns-in-Err-Out-clause-cause
+returns-in-Err-Out-clause-cause g c = cause_out _ _ _ _ c.in-Ok.ensures.cause.kept (rw c.in-Err-Out.field-0-is at c.in-Err-Out.ensures.cause)
+
+pub returns-in-Err-Mail-clause-cause : goal.returns-in-Err-Mail-clause-cause
+returns-in-Err-Mail-clause-cause g c = cause_mail _ _ _ _ c.in-Ok.ensures.cause.kept (rw c.in-Err-Mail.field-0-is at c.in-Err-Mail.ensures.cause)
+
+pub returns-in-Err-Log-clause-cause : goal.returns-in-Err-Log-clause-cause
+returns-in-Err-Log-clause-cause g c = cause_log _ _ _ _ c.in-Ok.ensures.cause.kept (rw c.in-Err-Log.field-0-is at c.in-Err-Log.ensures.cause)
+
+pub returns-in-Err-NoMemory-clause-cause : goal.returns-in-Err-NoMemory-clause-cause
+returns-in-Err-NoMemory-clause-cause g c = cause_memory _ _ _ _ c.in-Ok.ensures.cause.kept (rw c.in-Err-NoMemory.field-0-is at c.in-Err-NoMemory.ensures.cause)

@@ -1,0 +1,19 @@
+use Rattle.std.proofs.Common.{◌≡◌, ◌+◌, ◌&&◌, Bool, true, false, not, List, drop, map, refl, sym, ap, ◌∙◌}
+use Rattle.std.proofs.lemmas.List.{drop-drop, take_rest}
+use Rattle.pf_maincf.proofs.Differing.{differ_step}
+use Rattle.pf_maincf.specs.Edit.{differ, first_differs}
+use Rattle.pf_maincf.specs.declared.setting.Setting.{Setting}
+use Rattle.pf_maincf.proofs.sets.names_differ.Goals as goal
+
+pub returns-then-not-first_differs : goal.returns-then-not-first_differs
+returns-then-not-first_differs c =
+    let sets = c.args.sets.now in
+    sym (c.loop-i.invariant ∙ differ_step (drop c.loop-i.i sets)
+    ∙ ap (λ b. b && differ (map (λ (set : Setting). set.name) (drop 1 (drop c.loop-i.i sets)))) (sym (rw take_rest at c.first_differs.ensures) ∙ c.if-not-first_differs.true))
+
+pub loop-i-preserved : goal.loop-i-preserved
+loop-i-preserved c =
+    let sets = c.args.sets.now in
+    c.loop-i.invariant ∙ differ_step (drop c.loop-i.i sets)
+    ∙ ap (λ b. b && differ (map (λ (set : Setting). set.name) (drop 1 (drop c.loop-i.i sets)))) (sym (rw take_rest at c.first_differs.ensures) ∙ c.if-not-first_differs.false)
+    ∙ ap (λ more. differ (map (λ (set : Setting). set.name) more)) (drop-drop 1 c.loop-i.i sets)

@@ -1,0 +1,185 @@
+//! The edit of a main.cf's text.
+ghost use Rattle.std.specs.Prelude.{◌≡◌, ◌==◌, ◌++◌, ◌∷◌, [], map, filter, IfOk, OnOk};
+ghost use Rattle.std.specs.List.{find, fold};
+ghost use Rattle.std.specs.Option.{option_copied};
+ghost use Rattle.pf_base.specs.Unless.{Unless};
+ghost use Rattle.pf_maincf.specs.Edit as edit;
+ghost use Rattle.pf_maincf.specs.Edit.{AreSets, edited, set_line, with_line};
+
+use crate::maincf::MainCf;
+use crate::setting::Setting;
+use pf_base::{
+    Bytes, ConfFault, List, NoMemory, first_line, is_ignored, starts_with_space, without_return,
+};
+use std::alloc::Global;
+
+// The number of the line at which the logical line of this one begins; `begun` is that of the line before.
+fn begun_at(begun: u64, number: u64, line: &[u8]) -> u64
+    ensures { result ≡ edit.begun_at begun number line.now }
+{
+    let line = without_return(line);
+    if is_ignored(line) || starts_with_space(line) {
+        begun
+    } else {
+        number
+    }
+}
+
+// Adds the line that sets a name.
+fn add_set(text: &mut Bytes, set: &Setting) -> Result<(), NoMemory>
+    ensures { OnOk result (text.new ≡ text.old ++ set_line set.now) }
+{
+    text.extend(set.name.as_slice())?;
+    text.extend(b" =")?;
+    let value = set.value.as_slice();
+    if !value.is_empty() {
+        text.push(b' ')?;
+        text.extend(value)?;
+    }
+    text.push(b'\n')
+}
+
+// The first set of this line.
+fn set_at(sets: &[Setting], line: u64) -> Option<&Setting>
+    ensures { option_copied result ≡ find (λ set. set.line == line) sets.now }
+{
+    sets.iter().find(|set| set.line == line)
+}
+
+// Adds what stands there for a line of the text; `begun` is the number of the line at which its logical line begins.
+fn add_line(
+    text: &mut Bytes,
+    sets: &[Setting],
+    begun: u64,
+    line: &[u8],
+    feed: &[u8],
+) -> Result<(), NoMemory>
+    ensures { OnOk result (text.new ≡ text.old ++ edit.edited_line sets.now (record { begun = begun; line = line.now; feed = feed.now })) }
+{
+    let seen = without_return(line);
+    if !is_ignored(seen) {
+        if let Some(set) = set_at(sets, begun) {
+            if starts_with_space(seen) {
+                return Ok(());
+            }
+            return add_set(text, set);
+        }
+    }
+    text.extend(line)?;
+    text.extend(feed)
+}
+
+// The lines of a text, edited.
+fn edited_lines(alloc: Global, sets: &[Setting], text: &[u8]) -> Result<Bytes, NoMemory>
+    ensures { IfOk result (λ edited. edited ≡ edit.edited_lines sets.now text.now) }
+{
+    let mut edited = Bytes::new(alloc);
+    let mut left = text;
+    let mut number = 1;
+    let mut begun = 0;
+    'lines: loop {
+        match first_line(left) {
+            None => {
+                begun = begun_at(begun, number, left);
+                add_line(&mut edited, sets, begun, left, b"")?;
+                return Ok(edited);
+            }
+            Some((line, behind)) => {
+                begun = begun_at(begun, number, line);
+                add_line(&mut edited, sets, begun, line, b"\n")?;
+                left = behind;
+                number += 1;
+            }
+        }
+    }
+}
+
+// Whether nothing stands behind the last line feed.
+fn is_ended(text: &[u8]) -> bool
+    ensures { result ≡ edit.is_ended text.now }
+{
+    match text {
+        [] => true,
+        [.., last] => *last == b'\n',
+    }
+}
+
+// Ends a text with a line feed, where something stands behind the last one.
+fn end_line(text: &mut Bytes) -> Result<(), NoMemory>
+    ensures { OnOk result (text.new ≡ text.old ++ edit.feed_behind text.old) }
+{
+    if is_ended(text.as_slice()) {
+        Ok(())
+    } else {
+        text.push(b'\n')
+    }
+}
+
+// Adds the lines of the sets that have none.
+fn add_missing(text: &mut Bytes, sets: &[Setting]) -> Result<(), NoMemory>
+    ensures { OnOk result (text.new ≡ fold with_line text.old (filter (λ set. set.line == 0) sets.now)) }
+{
+    for set in sets {
+        if set.line == 0 {
+            end_line(text)?;
+            add_set(text, set)?;
+        }
+    }
+    Ok(())
+}
+
+// The sets with the lines at which the last settings of their names begin.
+fn placed(alloc: Global, conf: &MainCf, sets: &[Setting]) -> Result<List<Setting>, NoMemory>
+    ensures { IfOk result (λ placed. placed ≡ map (edit.placed conf.now.settings) sets.now) }
+{
+    let mut placed = List::new(alloc);
+    for set in sets {
+        let line = match conf.last(set.name.as_slice()) {
+            None => 0,
+            Some(setting) => setting.line,
+        };
+        placed.push(Setting {
+            line,
+            name: set.name.copy(alloc)?,
+            value: set.value.copy(alloc)?,
+        })?;
+    }
+    Ok(placed)
+}
+
+// The text with the sets in it.
+fn edited_text(
+    alloc: Global,
+    conf: &MainCf,
+    sets: &[Setting],
+    text: &[u8],
+) -> Result<Bytes, NoMemory>
+    ensures { IfOk result (λ edited. edited ≡ edit.edited_text (map (edit.placed conf.now.settings) sets.now) text.now) }
+{
+    let placed = placed(alloc, conf, sets)?;
+    let mut edited = edited_lines(alloc, placed.as_slice(), text)?;
+    add_missing(&mut edited, placed.as_slice())?;
+    Ok(edited)
+}
+
+impl MainCf {
+    /// The text of a main.cf after these are set (postconf(1), -e). The physical lines of the last logical line of each name
+    /// give way to one line `name = value`, or `name =` for an empty value, ended by a line feed; ignored lines between them
+    /// stay and come behind it. Names that the text does not set come as such lines at its end. Every other byte stays. A text
+    /// that `read` refuses is refused alike. The lines of the sets count for nothing.
+    pub fn edit(
+        alloc: Global,
+        file: &[u8],
+        text: &[u8],
+        sets: &List<Setting>,
+    ) -> Result<Bytes, ConfFault>
+        requires { AreSets sets.now }
+        ensures { Unless result ConfFault.NoMemory (λ r. r ≡ edited file.now text.now sets.now) }
+    {
+        let conf = MainCf::read(alloc, file, text)?;
+        match edited_text(alloc, &conf, sets.as_slice(), text) {
+            Ok(edited) => Ok(edited),
+            Err(NoMemory) => Err(ConfFault::NoMemory),
+        }
+    }
+}
