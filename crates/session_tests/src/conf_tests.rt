@@ -68,13 +68,7 @@ const TABLE: &[(&str, &str, &str, u8, &str)] = &[
         "postgate: main.cf:5: C14 setting outside the profile: mydomain\n",
     ),
     ("", "", "mynetworks = 10.0.0.0/8", 0, ACCEPT),
-    (
-        "= 1\n",
-        "",
-        "",
-        3,
-        "postgate: main.cf:1: C3 bad name\n",
-    ),
+    ("= 1\n", "", "", 3, "postgate: main.cf:1: C3 bad name\n"),
     (
         "",
         "",
