@@ -1,15 +1,14 @@
 -- Worked examples of the definitions, each by computation.
-use Rattle.std.proofs.Common.{◌≡◌, ℕ, Bool, true, false, List, [], ◌∷◌, None, Some, Ok, Err, refl, codes}
+use Rattle.std.proofs.Common.{◌≡◌, Bool, true, false, List, [], ◌∷◌, Some, Ok, Err, refl, codes}
 use Rattle.pf_base.specs.Heard.{Heard, nothing}
 use Rattle.pf_base.specs.Questions.{done, look, try, ◌>>=◌}
 use Rattle.pf_base.specs.declared.links.LinkStep.TheVariants.{Send}
 use Rattle.pf_base.specs.declared.links.Outcome.{Outcome}
 use Rattle.pf_base.specs.declared.links.Outcome.TheVariants.{Down, Reply}
-use Rattle.pf_base.specs.declared.pair.Pair.{Pair}
 use Rattle.lookup_forms.specs.Classes.{class_of, is_listed}
 use Rattle.lookup_forms.specs.Restrictions.{check_policy_service, class_end, list_end, list_with, permit_auth_destination, restriction_end}
 use Rattle.lookup_forms.specs.Tables.{Meanings, answer, first_of, value_at}
-use Rattle.lookup_forms.specs.declared.class.Class.TheVariants.{Local, Relay, Other}
+use Rattle.lookup_forms.specs.declared.class.Class.TheVariants.{Relay, Other}
 use Rattle.lookup_forms.specs.declared.class.ClassFault.TheVariants.{LookupFailed}
 use Rattle.lookup_forms.specs.declared.class.Domains.{Domains}
 use Rattle.lookup_forms.specs.declared.outside.Found.TheVariants.{Value, Absent}

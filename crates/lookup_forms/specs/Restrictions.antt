@@ -1,5 +1,5 @@
 -- How lists of restrictions end (SMTPD_ACCESS_README, SMTPD_POLICY_README).
-use Rattle.std.specs.Prelude.{ℕ, Bool, zero, suc, List, [], ◌∷◌, Option, None, Some, Result, Ok, Err, codes, get_or, if◌then◌else◌}
+use Rattle.std.specs.Prelude.{ℕ, Bool, zero, suc, List, [], ◌∷◌, Result, Ok, Err, codes, get_or, if◌then◌else◌}
 use Rattle.std.specs.Str.{bytes_eq}
 use Rattle.pf_base.specs.Questions.{done, try, ◌>>=◌}
 use Rattle.pf_base.specs.declared.links.Outcome.{Outcome}

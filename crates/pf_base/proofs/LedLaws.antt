@@ -1,7 +1,6 @@
 -- What led to what, in turn. Each caller's answers rest on led_refl, led_next and one law for each kind of outside call.
-use Rattle.std.proofs.Common.{◌≡◌, ◌≤◌, ℕ, ◌+◌, ◌-◌, ◌^◌, ◌++◌, min, Bool, true, List, [], ◌∷◌, refl, sym, ap, ◌∙◌, subst, arith, append_assoc}
+use Rattle.std.proofs.Common.{◌≡◌, ℕ, ◌+◌, ◌++◌, Bool, List, [], ◌∷◌, refl, sym, ap, ◌∙◌, subst, arith, append_assoc}
 use Rattle.std.proofs.lemmas.List.Sums.{sum_by-append}
-use Rattle.std.specs.List.{count_by}
 use Rattle.pf_base.specs.Causes.{RoseBy}
 use Rattle.pf_base.specs.Heard.{Heard, ◌then◌, marked, next_outcome, nothing}
 use Rattle.pf_base.specs.Led.{Answered, Follows, Kept, Led, Same, Service, Tables, Tried, Uses, World, world}

@@ -1,15 +1,15 @@
 -- Worked examples of the definitions, each by computation.
-use Rattle.std.proofs.Common.{◌≡◌, ℕ, ◌-◌, ◌^◌, ◌++◌, Bool, true, false, List, [], ◌∷◌, Option, None, Some, Ok, Err, refl, codes}
+use Rattle.std.proofs.Common.{◌≡◌, ℕ, Bool, true, false, List, [], ◌∷◌, None, Some, Ok, Err, refl, codes}
 use Rattle.pf_base.specs.Braces.{lone_brace, partner}
 use Rattle.pf_base.specs.Causes.{counted}
 use Rattle.pf_base.specs.FileList.{file_of, whole_file, with_file}
 use Rattle.pf_base.specs.Gathering.{followed_by}
 use Rattle.pf_base.specs.Heard.{marked, next_mark, next_outcome}
 use Rattle.pf_base.specs.Lines.{lines, onto_line, rest, unless_line, without_return}
-use Rattle.pf_base.specs.Logical.{Physical, grouped, is_ignored, logical_lines_of, physical_lines, starts_with_space}
+use Rattle.pf_base.specs.Logical.{grouped, is_ignored, logical_lines_of, physical_lines, starts_with_space}
 use Rattle.pf_base.specs.Memory.{fails_next, greatest_read}
 use Rattle.pf_base.specs.Names.{folded, is_host_name, is_label, is_label_byte, same_in_any_case}
-use Rattle.pf_base.specs.Questions.{done, look, try, ◌>>=◌}
+use Rattle.pf_base.specs.Questions.{look, try, ◌>>=◌}
 use Rattle.pf_base.specs.Refusal.{cause_text, name_part, printable, refusal_line}
 use Rattle.std.specs.Fmt.{digits}
 use Rattle.pf_base.specs.Space.{is_space, trimmed, without_leading_space, without_trailing_space}
@@ -18,7 +18,6 @@ use Rattle.pf_base.specs.Words.{words_of}
 use Rattle.pf_base.specs.declared.links.LinkStep.TheVariants.{Connect, Send}
 use Rattle.pf_base.specs.declared.links.Outcome.{Outcome}
 use Rattle.pf_base.specs.declared.links.Outcome.TheVariants.{Down, Reply}
-use Rattle.pf_base.specs.declared.logical.Logical.{Logical}
 use Rattle.pf_base.specs.declared.logical.TextFault.TheVariants.{Continuation}
 use Rattle.pf_base.specs.declared.pair.Pair.{Pair}
 use Rattle.pf_base.specs.declared.refused.Cause.TheVariants.{C2, C14}

@@ -1,11 +1,9 @@
 -- The causes of a session's faults are those of a turn.
-use Rattle.std.proofs.Common.{◌≡◌, ℕ, Err, Ok, Result, refl, sym, ap, ◌∙◌, arith}
+use Rattle.std.proofs.Common.{◌≡◌, ℕ, Err, Ok, refl, arith}
 use Rattle.pf_smtp.specs.Feeding.{Faults, HasSessionCause}
 use Rattle.pf_smtp.specs.declared.session.Going.{Going}
-use Rattle.pf_smtp.specs.declared.session.SessionFault.{SessionFault}
 use Rattle.pf_smtp.specs.declared.session.SessionFault.TheVariants as session
 use Rattle.pf_top.specs.Talk.{Counts, HasTalkCause}
-use Rattle.pf_top.specs.declared.talk.TalkFault.{TalkFault}
 use Rattle.pf_top.specs.declared.talk.TalkFault.TheVariants as talk
 
 -- the counts of the input and of the sinks

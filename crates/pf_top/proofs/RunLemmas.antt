@@ -1,15 +1,12 @@
 -- What a run leaves, put together.
-use Rattle.std.proofs.Common.{◌≡◌, ℕ, true, List, Option, None, Some, inl, inr, refl, sym, ap}
+use Rattle.std.proofs.Common.{◌≡◌, ℕ, List, Option, Some, inr, refl, sym, ap}
 use Rattle.std.specs.Prelude.{◌≢◌, ◌⊎◌, is_some}
 use Rattle.pf_base.proofs.ToldLemmas.{front_none}
-use Rattle.pf_base.specs.Refusal.{refusal_line}
-use Rattle.pf_base.specs.Told.{HoldsFront}
 use Rattle.pf_base.specs.declared.pair.Pair.{Pair}
 use Rattle.pf_base.specs.declared.refused.Refused.{Refused}
 use Rattle.pf_top.specs.Opened.{IsOpened}
-use Rattle.pf_top.specs.Opening.{setup_of}
-use Rattle.pf_top.specs.Run.{BrokenOff, CutOff, IsRefused, Opens, Refuses, SaysFront, Served, ended_status, fault_status, logged, opened_in, read_failed_line, refused_in}
-use Rattle.pf_top.specs.Talk.{World, TalksFront, TalksShort, TalksUntil}
+use Rattle.pf_top.specs.Run.{CutOff, IsRefused, Opens, SaysFront, ended_status, fault_status, opened_in, read_failed_line, refused_in}
+use Rattle.pf_top.specs.Talk.{World}
 use Rattle.pf_top.specs.Words.{Options, options_of}
 use Rattle.pf_top.specs.declared.opening.Opened.{Opened}
 use Rattle.pf_top.specs.declared.opening.Opened.TheVariants as opened

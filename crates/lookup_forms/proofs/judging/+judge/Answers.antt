@@ -1,9 +1,8 @@
-use Rattle.std.proofs.Common.{◌≡◌, ◌≢◌, ◌<◌, ◌+◌, ◌-◌, ℕ, zero, suc, List, [], ◌∷◌, None, drop, length, sym, refl, ap, ◌∙◌, arith}
-use Rattle.std.specs.Prelude.{get_or, unwrap_or}
+use Rattle.std.proofs.Common.{◌≡◌, ◌≢◌, ◌<◌, ◌+◌, ◌-◌, ℕ, zero, suc, List, ◌∷◌, drop, length, sym, refl, ap, arith}
+use Rattle.std.specs.Prelude.{get_or}
 use Rattle.std.proofs.lemmas.List.{at_drop_more, at_drop_all}
 use Rattle.std.proofs.lemmas.Result.{IfOk-weaker}
 use Rattle.pf_base.proofs.LedLaws.{led_next, led_refl}
-use Rattle.pf_base.specs.Led.{world}
 use Rattle.lookup_forms.specs.Restrictions as spec
 use Rattle.lookup_forms.specs.declared.class.Domains.{Domains}
 use Rattle.lookup_forms.specs.declared.restrictions.Restriction.{Restriction}

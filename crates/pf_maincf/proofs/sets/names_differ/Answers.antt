@@ -1,7 +1,7 @@
-use Rattle.std.proofs.Common.{◌≡◌, ◌+◌, ◌&&◌, Bool, true, false, not, List, drop, map, refl, sym, ap, ◌∙◌}
+use Rattle.std.proofs.Common.{◌&&◌, drop, map, sym, ap, ◌∙◌}
 use Rattle.std.proofs.lemmas.List.{drop-drop, take_rest}
 use Rattle.pf_maincf.proofs.Differing.{differ_step}
-use Rattle.pf_maincf.specs.Edit.{differ, first_differs}
+use Rattle.pf_maincf.specs.Edit.{differ}
 use Rattle.pf_maincf.specs.declared.setting.Setting.{Setting}
 use Rattle.pf_maincf.proofs.sets.names_differ.Goals as goal
 

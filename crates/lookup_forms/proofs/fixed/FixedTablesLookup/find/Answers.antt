@@ -1,4 +1,4 @@
-use Rattle.std.proofs.Common.{false, Err, sym, ap, ◌∙◌, arith}
+use Rattle.std.proofs.Common.{false, arith}
 use Rattle.std.proofs.lemmas.Option.{slice_get_past}
 use Rattle.lookup_forms.specs.Tables as spec
 use Rattle.lookup_forms.proofs.fixed.FixedTablesLookup.find.Goals as goal
