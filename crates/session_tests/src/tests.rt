@@ -49,6 +49,32 @@ fn only(alloc: Global, call: u64) -> Result<List<u64>, NoMemory> {
     Ok(numbers)
 }
 
+// A main.cf of this text, of whose calls one fails.
+fn files(alloc: Global, conf: &[u8], failing: u64) -> Result<MemFiles, NoMemory> {
+    let mut pairs = List::new(alloc);
+    pairs.push(Pair {
+        key: Bytes::from_slice(alloc, b"main.cf")?,
+        value: Bytes::from_slice(alloc, conf)?,
+    })?;
+    Ok(MemFiles::new(alloc, pairs, only(alloc, failing)?))
+}
+
+// An input in reads of at most so many bytes, 0 sets no limit, of which one fails.
+fn source(alloc: Global, input: &[u8], cut: u64, failing: u64) -> Result<MemSource, NoMemory> {
+    let bytes = Bytes::from_slice(alloc, input)?;
+    let cuts = if cut > 0 {
+        only(alloc, cut)?
+    } else {
+        List::new(alloc)
+    };
+    Ok(MemSource::new(bytes, cuts, only(alloc, failing)?))
+}
+
+// A sink of whose calls one fails.
+fn sink(alloc: Global, failing: u64) -> Result<MemSink, NoMemory> {
+    Ok(MemSink::new(alloc, only(alloc, failing)?))
+}
+
 // Runs these words with this main.cf and this input, in reads of at most so many bytes; 0 sets no limit.
 pub(crate) fn run_with(
     alloc: Global,
@@ -59,21 +85,11 @@ pub(crate) fn run_with(
     faults: Failing,
 ) -> Result<Left, NoMemory> {
     let words = words(alloc, list)?;
-    let mut pairs = List::new(alloc);
-    pairs.push(Pair {
-        key: Bytes::from_slice(alloc, b"main.cf")?,
-        value: Bytes::from_slice(alloc, conf)?,
-    })?;
-    let mut files = MemFiles::new(alloc, pairs, only(alloc, faults.files)?);
-    let mut cuts = List::new(alloc);
-    if cut > 0 {
-        cuts.push(cut)?;
-    }
-    let bytes = Bytes::from_slice(alloc, input)?;
-    let mut source = MemSource::new(bytes, cuts, only(alloc, faults.input)?);
-    let mut out = MemSink::new(alloc, only(alloc, faults.out)?);
-    let mut mail = MemSink::new(alloc, List::new(alloc));
-    let mut log = MemSink::new(alloc, only(alloc, faults.log)?);
+    let mut files = files(alloc, conf, faults.files)?;
+    let mut source = source(alloc, input, cut, faults.input)?;
+    let mut out = sink(alloc, faults.out)?;
+    let mut mail = sink(alloc, 0)?;
+    let mut log = sink(alloc, faults.log)?;
     let status = run(
         alloc,
         &words,

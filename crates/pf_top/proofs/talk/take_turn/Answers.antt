@@ -1,4 +1,4 @@
-use Rattle.std.proofs.Common.{List, Option, ℕ, ap, sym, ◌∙◌, take}
+use Rattle.std.proofs.Common.{List, Option, ℕ, ap, sym, ◌∙◌, take, arith}
 use Rattle.pf_top.specs.Talk.{world}
 use Rattle.pf_top.proofs.CauseLemmas.{cause_log, cause_mail, cause_memory, cause_ok, cause_out}
 use Rattle.pf_top.proofs.TalkLemmas.{front_of_nothing, going_more, going_over}
@@ -43,3 +43,35 @@ returns-in-Err-Log-clause-cause g c = cause_log _ _ _ _ c.in-Ok.ensures.cause.ke
 
 pub returns-in-Err-NoMemory-clause-cause : goal.returns-in-Err-NoMemory-clause-cause
 returns-in-Err-NoMemory-clause-cause g c = cause_memory _ _ _ _ c.in-Ok.ensures.cause.kept (rw c.in-Err-NoMemory.field-0-is at c.in-Err-NoMemory.ensures.cause)
+
+pub returns-in-Err-Out-clause-front : goal.returns-in-Err-Out-clause-front
+returns-in-Err-Out-clause-front g c = record {
+  taken = take c.in-Ok.count c.read.new.buf;
+  within = omega (arith, c.in-Ok.ensures.bound.0, c.in-Ok.ensures.bound.1);
+  input = c.in-Ok.ensures.bytes.0;
+  front = c.in-Err-Out.ensures.front;
+}
+
+pub returns-in-Err-Mail-clause-front : goal.returns-in-Err-Mail-clause-front
+returns-in-Err-Mail-clause-front g c = record {
+  taken = take c.in-Ok.count c.read.new.buf;
+  within = omega (arith, c.in-Ok.ensures.bound.0, c.in-Ok.ensures.bound.1);
+  input = c.in-Ok.ensures.bytes.0;
+  front = c.in-Err-Mail.ensures.front;
+}
+
+pub returns-in-Err-Log-clause-front : goal.returns-in-Err-Log-clause-front
+returns-in-Err-Log-clause-front g c = record {
+  taken = take c.in-Ok.count c.read.new.buf;
+  within = omega (arith, c.in-Ok.ensures.bound.0, c.in-Ok.ensures.bound.1);
+  input = c.in-Ok.ensures.bytes.0;
+  front = c.in-Err-Log.ensures.front;
+}
+
+pub returns-in-Err-NoMemory-clause-front : goal.returns-in-Err-NoMemory-clause-front
+returns-in-Err-NoMemory-clause-front g c = record {
+  taken = take c.in-Ok.count c.read.new.buf;
+  within = omega (arith, c.in-Ok.ensures.bound.0, c.in-Ok.ensures.bound.1);
+  input = c.in-Ok.ensures.bytes.0;
+  front = c.in-Err-NoMemory.ensures.front;
+}
