@@ -1,0 +1,14 @@
+pub mod FormLemmas
+pub mod LengthLaws
+pub mod LevelLaws
+pub mod PartLaws
+pub mod PartingLemmas
+pub mod RoundLaws
+pub mod Rows
+pub mod RunLaws
+pub mod SettledLaws
+pub mod ShapeLaws
+pub mod SourceLaws
+pub mod TableLaws
+pub mod ValueLaws
+pub mod WriteLaws

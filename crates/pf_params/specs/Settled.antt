@@ -1,0 +1,55 @@
+-- The settings of a main.cf with those that count after them, and the values of texts in which they are named (postconf(5), main.cf format).
+use Rattle.std.specs.Prelude.{ℕ, ◌++◌, Bool, true, false, List, [], Result, Ok, Err, map}
+use Rattle.pf_base.specs.declared.refused.Cause.{Cause}
+use Rattle.pf_base.specs.declared.refused.Cause.TheVariants.{C4, C5, C16}
+use Rattle.pf_base.specs.declared.refused.ConfFault.{ConfFault}
+use Rattle.pf_base.specs.declared.refused.ConfFault.TheVariants.{Refused}
+use Rattle.pf_maincf.specs.Settings.{Conf}
+use Rattle.pf_maincf.specs.declared.setting.Setting.{Setting}
+use Rattle.pf_params.specs.Expansion.{Answer}
+use Rattle.pf_params.specs.Names.{Source, expanded}
+use Rattle.pf_params.specs.Names.{Source as source}
+use Rattle.pf_params.specs.Sources.{source_of}
+use Rattle.pf_params.specs.declared.flaw.Flaw.{Flaw}
+use Rattle.pf_params.specs.declared.flaw.Flaw.TheVariants.{BadForm, TooDeep, TooLong}
+
+-- the name of the file, and all settings in order
+pub record Settled : Type 0 where
+  pub file : List ℕ
+  pub settings : List Setting
+
+-- a setting, at line 0 where it stands in no file
+abbrev pub line_if : Bool → Setting → Setting
+line_if true setting = setting
+line_if false setting = record setting { line = 0 }
+
+-- the settings of a main.cf, and behind them those that count after them
+abbrev pub settled : Conf → List Setting → Settled
+settled conf over = record { file = conf.file; settings = map (line_if true) conf.settings ++ map (line_if false) over }
+
+-- no name stands for anything by default
+abbrev pub no_preset : List ℕ → Source
+no_preset name = source.text []
+
+-- what a name stands for
+abbrev pub settled_source : Settled → List ℕ → Source
+settled_source settled name = source_of no_preset settled.settings name
+
+-- the cause of a refusal
+abbrev pub cause_of : Flaw → Cause
+cause_of BadForm = C5
+cause_of TooDeep = C4
+cause_of TooLong = C16
+
+-- a refusal, which has no line and names nothing
+abbrev pub refused : List ℕ → Flaw → ConfFault
+refused file flaw = Refused (record { file = file; line = 0; cause = cause_of flaw; name = [] })
+
+-- a value, or its refusal
+abbrev pub or_refused : List ℕ → Answer → Result (List ℕ) ConfFault
+or_refused file (Ok bytes) = Ok bytes
+or_refused file (Err flaw) = Err (refused file flaw)
+
+-- the value of a text
+abbrev pub value_in : Settled → List ℕ → Result (List ℕ) ConfFault
+value_in settled text = or_refused settled.file (expanded (settled_source settled) text)
