@@ -133,7 +133,7 @@ meaning_extends v w more (meaning.DomainOf name) bytes e =
     domain_ok (Err f) bytes e = cc
 
 -- one level more
-level_more : (names : List (List ℕ × Meaning)) (n : ℕ) → Extends (level_value names n) (level_value names (suc n))
+pub level_more : (names : List (List ℕ × Meaning)) (n : ℕ) → Extends (level_value names n) (level_value names (suc n))
 unfolding level_value
 level_more names zero name bytes e = cc
 level_more names (suc n) name bytes e = meaning_extends (level_value names n) (level_value names (suc n)) (level_more names n) (meaning_of names name) bytes e

@@ -9,6 +9,7 @@ pub mod RunLaws
 pub mod SettledLaws
 pub mod ShapeLaws
 pub mod SourceLaws
+pub mod StableLaws
 pub mod TableLaws
 pub mod ValueLaws
 pub mod WriteLaws

@@ -1,5 +1,5 @@
 //! What is known of the values of names, level by level.
-ghost use Rattle.std.specs.Prelude.{◌≡◌, ◌+◌, ◌<◌, [], get_or, length, map, IfOk};
+ghost use Rattle.std.specs.Prelude.{◌≡◌, ◌+◌, ◌<◌, ◌↔◌, [], get_or, length, map, IfOk, IsTrue};
 ghost use Rattle.std.specs.Map.{keys_of};
 ghost use Rattle.pf_params.specs.Levels.{AreShapes};
 ghost use Rattle.pf_params.specs.Meanings.{level_value, meaning_value};
@@ -114,7 +114,14 @@ fn next(alloc: Global, names: &Names, shapes: &Shapes) -> Result<Shapes, NoMemor
     })
 }
 
-/// The shapes of the values of names with 100 levels.
+// The shapes are the same, whatever the levels.
+fn are_same(first: &Shapes, second: &Shapes) -> bool
+    ensures { IsTrue result ↔ (first.now.named ≡ second.now.named) × (first.now.absent ≡ second.now.absent) }
+{
+    first.absent == second.absent && first.named.as_slice() == second.named.as_slice()
+}
+
+/// The shapes of the values of names with 100 levels. Where a level changes none, no further one does.
 pub(crate) fn shapes_of(alloc: Global, names: &Names) -> Result<Shapes, NoMemory>
     ensures shapes { IfOk result (λ shapes. AreShapes names.now shapes) }
     ensures levels { IfOk result (λ shapes. shapes.levels ≡ expansion.depth_limit) }
@@ -125,7 +132,15 @@ pub(crate) fn shapes_of(alloc: Global, names: &Names) -> Result<Shapes, NoMemory
         absent: Shape::Flawed(Flaw::TooDeep),
     };
     while shapes.levels < DEPTH_LIMIT {
-        shapes = next(alloc, names, &shapes)?;
+        let more = next(alloc, names, &shapes)?;
+        if are_same(&more, &shapes) {
+            return Ok(Shapes {
+                levels: DEPTH_LIMIT,
+                named: more.named,
+                absent: more.absent,
+            });
+        }
+        shapes = more;
     }
     Ok(shapes)
 }
