@@ -1,13 +1,13 @@
 -- What is written of a value, piece by piece.
-use Rattle.std.proofs.Common.{◌≡◌, ◌≢◌, get_or, drop, nat_lt, if◌then◌else◌, ℕ, ◌+◌, ◌-◌, ◌<◌, ◌≤◌, ◌++◌, zero, suc, Bool, true, false, List, [], ◌∷◌, length, Ok, Err, is_ok, None, Some, refl, sym, ap, ◌∙◌, subst, arith, append_assoc}
+use Rattle.std.proofs.Common.{◌≡◌, ◌≢◌, get_or, drop, nat_lt, if◌then◌else◌, ℕ, ◌+◌, ◌-◌, ◌<◌, ◌≤◌, ◌++◌, Bool, true, false, List, [], ◌∷◌, length, Ok, Err, is_ok, None, Some, refl, sym, ap, ◌∙◌, subst, arith, append_assoc}
 use Rattle.std.proofs.lemmas.List.{nil_from_length}
 use Rattle.pf_params.proofs.LengthLaws.{depth_more, drop_item}
 use Rattle.pf_params.proofs.LevelLaws.{both, level_extends, level_limit}
+use Rattle.pf_params.proofs.RoundLaws.{next_meaning}
 use Rattle.pf_params.proofs.ShapeLaws.{choice_shape, limited_shape}
-use Rattle.std.specs.Option.{unwrap_or}
 use Rattle.pf_params.specs.Expansion.{Answer, length_limit, within_limit}
 use Rattle.pf_params.specs.Levels.{AreShapes, choice_behind, shape_named}
-use Rattle.pf_params.specs.Meanings.{content, level_value, meaning_in, meaning_of, meaning_value}
+use Rattle.pf_params.specs.Meanings.{content, level_value, meaning_in}
 use Rattle.pf_params.specs.Names.{domain_of}
 use Rattle.pf_params.specs.Runs.{added, behind, behind_choice, choice_name, flaw_alone, run}
 use Rattle.pf_params.specs.RunsMeant.{depth_of}
@@ -92,14 +92,7 @@ piece names shapes n mode token rest are h there =
           ∙ ap (λ xs. content (added v mode token) ++ xs) (sym (ap content parts.y_is) ∙ ap (λ m. content (run v m rest)) (sym same));
     }
 
--- with one level more, a name has the value of what it means
-level_step : (names : List (List ℕ × Meaning)) (n : ℕ) (name : List ℕ) → n ≢ 0 → level_value names n name ≡ meaning_value (level_value names (n - 1)) (meaning_of names name)
-unfolding level_value
-level_step names zero name h = absurd (h refl)
-level_step names (suc n) name h = ap (λ k. meaning_value (level_value names k) (meaning_of names name)) (same n) where
-  same : (n : ℕ) → n ≡ suc n - 1
-  same n = omega arith
-
+-- a name's value with one level more, by what the name means
 limit_there : (x : Answer) → is_ok (within_limit x) ≡ true → within_limit x ≡ x
 limit_there (Ok bytes) h =
     (elim (nat_lt length_limit (length bytes)) as (λ t. is_ok (unless_long t bytes) ≡ true → unless_long t bytes ≡ unless_long false bytes) [
@@ -111,29 +104,31 @@ limit_there (Ok bytes) h =
     unless_long t b = if t then Err TooLong else Ok b
 limit_there (Err flaw) h = refl
 
-pub text_there : (names : List (List ℕ × Meaning)) (n : ℕ) (name : List ℕ) (tokens : List Token) → n ≢ 0 → meaning_in names name ≡ Some (meaning.Text tokens)
-    → is_ok (level_value names n name) ≡ true → level_value names n name ≡ run (level_value names (n - 1)) Counts tokens
-text_there names n name tokens h is there =
-    let step = level_step names n name h ∙ ap (λ m. meaning_value (level_value names (n - 1)) (unwrap_or m (meaning.Text []))) is in
-    step ∙ limit_there (run (level_value names (n - 1)) Counts tokens) (ap is_ok (sym step) ∙ there)
+pub text_there : (names : List (List ℕ × Meaning)) (n : ℕ) (name : List ℕ) (tokens : List Token) → meaning_in names name ≡ Some (meaning.Text tokens)
+    → is_ok (level_value names (n + 1) name) ≡ true → level_value names (n + 1) name ≡ run (level_value names n) Counts tokens
+text_there names n name tokens is there =
+    let next = next_meaning names n name (Some (meaning.Text tokens)) is in
+    next ∙ limit_there (run (level_value names n) Counts tokens) (ap is_ok (sym next) ∙ there)
 
-pub domain_there : (names : List (List ℕ × Meaning)) (n : ℕ) (name host : List ℕ) → n ≢ 0 → meaning_in names name ≡ Some (meaning.DomainOf host)
-    → level_value names n name ≡ domain_of (level_value names (n - 1) host)
-domain_there names n name host h is = level_step names n name h ∙ ap (λ m. meaning_value (level_value names (n - 1)) (unwrap_or m (meaning.Text []))) is
+pub domain_there : (names : List (List ℕ × Meaning)) (n : ℕ) (name host : List ℕ) → meaning_in names name ≡ Some (meaning.DomainOf host)
+    → level_value names (n + 1) name ≡ domain_of (level_value names n host)
+domain_there names n name host is = next_meaning names n name (Some (meaning.DomainOf host)) is
 
 pub host_there : (x : Answer) → is_ok (domain_of x) ≡ true → is_ok x ≡ true
 host_there (Ok host) h = refl
 host_there (Err flaw) h = h
 
-pub none_there : (names : List (List ℕ × Meaning)) (n : ℕ) (name : List ℕ) → n ≢ 0 → meaning_in names name ≡ None → content (level_value names n name) ≡ []
-none_there names n name h is = ap content (level_step names n name h ∙ ap (λ m. meaning_value (level_value names (n - 1)) (unwrap_or m (meaning.Text []))) is)
+pub none_there : (names : List (List ℕ × Meaning)) (n : ℕ) (name : List ℕ) → meaning_in names name ≡ None → content (level_value names (n + 1) name) ≡ []
+none_there names n name is = ap content (next_meaning names n name None is)
 
-pub bad_there : (names : List (List ℕ × Meaning)) (n : ℕ) (name : List ℕ) → n ≢ 0 → meaning_in names name ≡ Some meaning.BadForm → is_ok (level_value names n name) ≡ true → ⊥
-bad_there names n name h is there =
-    cc_false (sym (ap is_ok (level_step names n name h ∙ ap (λ m. meaning_value (level_value names (n - 1)) (unwrap_or m (meaning.Text []))) is)) ∙ there)
-  where
-    cc_false : false ≡ true → ⊥
-    cc_false e = cc
+pub bad_there : (names : List (List ℕ × Meaning)) (n : ℕ) (name : List ℕ) → meaning_in names name ≡ Some meaning.BadForm → is_ok (level_value names (n + 1) name) ≡ true → ⊥
+bad_there names n name is there = cc_false (sym (ap is_ok (next_meaning names n name (Some meaning.BadForm) is)) ∙ there) where
+  cc_false : false ≡ true → ⊥
+  cc_false e = cc
+
+-- one level less, and then one more
+pub one_less : (n : ℕ) → n ≢ 0 → n - 1 + 1 ≡ n
+one_less n h = omega (arith, h)
 
 pub zero_there : (names : List (List ℕ × Meaning)) (name : List ℕ) → is_ok (level_value names 0 name) ≡ true → ⊥
 unfolding level_value

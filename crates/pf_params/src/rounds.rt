@@ -54,8 +54,8 @@ fn meaning_shape(
     }
 }
 
-// The shape of a name's value with one level more.
-fn next_shape(
+/// The shape of a name's value with one level more.
+pub(crate) fn next_shape(
     alloc: Global,
     names: &Names,
     shapes: &Shapes,

@@ -1,5 +1,5 @@
 //! The values of texts.
-ghost use Rattle.std.specs.Prelude.{◌≡◌, IfOk};
+ghost use Rattle.std.specs.Prelude.{◌≡◌, ◌+◌, IfOk};
 ghost use Rattle.pf_params.specs.Expansion.{text_value};
 ghost use Rattle.pf_params.specs.Levels.{AreShapes};
 ghost use Rattle.pf_params.specs.Meanings.{level_value};
@@ -8,8 +8,9 @@ use crate::flaw::Flaw;
 use crate::lengths::{Shapes, pieces_shape};
 use crate::names::Names;
 use crate::parse::tokens_of;
+use crate::rounds::next_shape;
 use crate::shape::Shape;
-use crate::write::write_pieces;
+use crate::write::{write_meaning, write_pieces};
 use pf_base::{Bytes, NoMemory};
 use std::alloc::Global;
 
@@ -38,6 +39,27 @@ pub(crate) fn value_of(
                 shapes.levels,
                 &mut value,
             )?;
+            Ok(Ok(value))
+        }
+    }
+}
+
+/// The value of a name with one level more, where names mean these and have these shapes; or why there is none.
+pub(crate) fn named_value(
+    alloc: Global,
+    names: &Names,
+    shapes: &Shapes,
+    name: &Bytes,
+) -> Result<Result<Bytes, Flaw>, NoMemory>
+    requires { AreShapes names.now shapes.now }
+    ensures { IfOk result (λ value. value ≡ level_value names.now (shapes.now.levels + 1) name.now) }
+{
+    let shape = next_shape(alloc, names, shapes, name)?;
+    match shape {
+        Shape::Flawed(flaw) => Ok(Err(flaw)),
+        Shape::Long(_) => {
+            let mut value = Bytes::new(alloc);
+            write_meaning(alloc, names, shapes, name, shapes.levels, &mut value)?;
             Ok(Ok(value))
         }
     }

@@ -1,5 +1,5 @@
 //! Values are written.
-ghost use Rattle.std.specs.Prelude.{◌≡◌, ◌==◌, ◌≤◌, ◌++◌, true, is_ok, OnOk};
+ghost use Rattle.std.specs.Prelude.{◌≡◌, ◌==◌, ◌≤◌, ◌+◌, ◌++◌, true, is_ok, OnOk};
 ghost use Rattle.std.specs.List.{position};
 ghost use Rattle.pf_params.specs.Levels.{AreShapes};
 ghost use Rattle.pf_params.specs.Meanings.{content, level_value};
@@ -122,15 +122,31 @@ pub(crate) fn write_name(
     if is_nothing(shape_named(names, shapes, name)) {
         return Ok(());
     }
+    write_meaning(alloc, names, shapes, name, levels - 1, out)
+}
+
+/// Adds the value of a name, which is there with one level more.
+#[cycle(write_name)]
+pub(crate) fn write_meaning(
+    alloc: Global,
+    names: &Names,
+    shapes: &Shapes,
+    name: &Bytes,
+    levels: u64,
+    out: &mut Bytes,
+) -> Result<(), NoMemory>
+    requires shapes { AreShapes names.now shapes.now }
+    requires levels { levels ≤ shapes.now.levels }
+    requires there { is_ok (level_value names.now (levels + 1) name.now) ≡ true }
+    ensures { OnOk result (out.new ≡ out.old ++ content (level_value names.now (levels + 1) name.now)) }
+{
     match names.get(name) {
         None => Ok(()),
         Some(Meaning::BadForm) => Ok(()),
         Some(Meaning::Text(tokens)) => {
-            write_pieces(alloc, names, shapes, tokens.as_slice(), levels - 1, out)
+            write_pieces(alloc, names, shapes, tokens.as_slice(), levels, out)
         }
-        Some(Meaning::DomainOf(host)) => {
-            write_domain(alloc, names, shapes, host, levels - 1, out)
-        }
+        Some(Meaning::DomainOf(host)) => write_domain(alloc, names, shapes, host, levels, out),
     }
 }
 

@@ -8,6 +8,9 @@ use Rattle.pf_params.proofs.write.+write_name.Given as goal
 abbrev pub decreases-write_name : goal.decreases-write_name
 decreases-write_name l = 4 * l.levels
 
+abbrev pub decreases-write_meaning : goal.decreases-write_meaning
+decreases-write_meaning l = 4 * l.levels + 3
+
 abbrev pub decreases-write_domain : goal.decreases-write_domain
 decreases-write_domain l = 4 * l.levels + 1
 
