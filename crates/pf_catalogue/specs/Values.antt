@@ -1,0 +1,58 @@
+-- The values of parameters (postconf(5)): what a text says, or None where it is none of the values of its kind.
+use Rattle.std.specs.Prelude.{ℕ, Bool, true, false, List, Option, None, Some, Result, Ok, Err, codes, if◌then◌else◌}
+use Rattle.std.specs.List.{list_all}
+use Rattle.std.specs.Option.{option_map}
+use Rattle.std.specs.Str.{bytes_eq}
+use Rattle.pf_base.specs.Names.{same_in_any_case}
+use Rattle.pf_base.specs.Words.{words_of}
+use Rattle.pf_base.specs.declared.words.WordsFault.{WordsFault}
+use Rattle.pf_catalogue.specs.Clients.{are_rewrite_clients}
+use Rattle.pf_catalogue.specs.Lists.{has_no_file, is_address_kind, is_extension_way, is_file}
+use Rattle.pf_catalogue.specs.Numbers.{number_within}
+use Rattle.pf_catalogue.specs.declared.kind.Kind.{Kind}
+use Rattle.pf_catalogue.specs.declared.kind.Kind.TheVariants as kind
+use Rattle.pf_catalogue.specs.declared.value.Value.{Value}
+use Rattle.pf_catalogue.specs.declared.value.Value.TheVariants.{Text, Number, Yes, Items}
+
+-- a domain's name, and no file's
+abbrev pub origin : List ℕ → Option Value
+origin text = if is_file text then None else Some Text
+
+abbrev pub number : ℕ → ℕ → List ℕ → Option Value
+number least most text = option_map Number (number_within least most text)
+
+-- yes or no, in any case
+abbrev pub yes_or_no : List ℕ → Option Value
+yes_or_no text =
+    if same_in_any_case text (codes "yes") then Some (Yes true) else if same_in_any_case text (codes "no") then Some (Yes false) else None
+
+-- yes, and nothing else
+abbrev pub fixed_yes : List ℕ → Option Value
+fixed_yes text = if bytes_eq text (codes "yes") then Some Text else None
+
+-- items that may stand in a list of a kind; those of other kinds may be any
+abbrev pub are_items : Kind → List (List ℕ) → Bool
+are_items kind.Maps items = has_no_file items
+are_items kind.AddressKinds items = list_all is_address_kind items
+are_items kind.Extensions items = list_all is_extension_way items
+are_items kind.RewriteClients items = are_rewrite_clients false items
+are_items k items = true
+
+-- the items of a list, if each brace has its partner
+abbrev pub list_of : Kind → Result (List (List ℕ)) WordsFault → Option Value
+list_of k (Ok items) = if are_items k items then Some (Items items) else None
+list_of k (Err fault) = None
+
+abbrev pub list : Kind → List ℕ → Option Value
+list k text = list_of k (words_of text)
+
+-- what a text says
+abbrev pub value_of : Kind → List ℕ → Option Value
+value_of kind.Text text = Some Text
+value_of kind.Unset text = Some Text
+value_of kind.Origin text = origin text
+value_of (kind.Number least most) text = number least most text
+value_of kind.Code text = number 400 599 text
+value_of kind.Yes text = yes_or_no text
+value_of kind.FixedYes text = fixed_yes text
+value_of k text = list k text
