@@ -14,7 +14,7 @@ mod value;
 
 pub use catalogue::Preset;
 pub use kind::Kind;
-pub use named::{kind_of, param, param_at, param_name, preset_of};
+pub use named::{kind_of, param, param_at, param_name, param_place, preset_of};
 pub use params::{PARAMS, Param};
 pub use tables::add_tables;
 pub use value::{Value, value_of};

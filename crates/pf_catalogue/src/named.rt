@@ -27,6 +27,14 @@ pub fn param_at(place: u16) -> Param
     Param { place }
 }
 
+/// The place of a parameter in the table, from 0.
+pub fn param_place(p: Param) -> u16
+    ensures place { result ≡ p }
+    ensures within { result < 77 }
+{
+    p.place
+}
+
 /// The name of a parameter.
 pub fn param_name(p: Param) -> &'static [u8]
     ensures { result.now ≡ (spec.row_at p).name }

@@ -1,8 +1,13 @@
+pub mod CatalogueLaws
+pub mod ClassLaws
 pub mod FormLemmas
+pub mod KindLaws
 pub mod LengthLaws
 pub mod LevelLaws
 pub mod PartLaws
 pub mod PartingLemmas
+pub mod PresetLaws
+pub mod ReadingLaws
 pub mod RoundLaws
 pub mod Rows
 pub mod RunLaws
@@ -11,5 +16,6 @@ pub mod ShapeLaws
 pub mod SourceLaws
 pub mod StableLaws
 pub mod TableLaws
+pub mod TextLaws
 pub mod ValueLaws
 pub mod WriteLaws

@@ -79,7 +79,7 @@ source_set presets settings setting name =
     reverse_last : (settings : List Setting) (setting : Setting) → reverse (settings ++ (setting ∷ [])) ≡ setting ∷ reverse settings
     reverse_last settings setting = reverse-append settings (setting ∷ [])
 
-turned : (a b : List ℕ) → bytes_eq a b ≡ bytes_eq b a
+pub turned : (a b : List ℕ) → bytes_eq a b ≡ bytes_eq b a
 turned a b = by_tests (bytes_eq a b) (bytes_eq b a) refl refl where
   by_tests : (s t : Bool) → bytes_eq a b ≡ s → bytes_eq b a ≡ t → s ≡ t
   by_tests true true p q = refl

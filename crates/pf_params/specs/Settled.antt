@@ -1,5 +1,5 @@
 -- The settings of a main.cf with those that count after them, and the values of texts in which they are named (postconf(5), main.cf format).
-use Rattle.std.specs.Prelude.{ℕ, ◌++◌, Bool, true, false, List, [], Result, Ok, Err, map}
+use Rattle.std.specs.Prelude.{ℕ, ◌+◌, ◌++◌, Bool, true, false, List, [], Result, Ok, Err, map}
 use Rattle.pf_base.specs.declared.refused.Cause.{Cause}
 use Rattle.pf_base.specs.declared.refused.Cause.TheVariants.{C4, C5, C16}
 use Rattle.pf_base.specs.declared.refused.ConfFault.{ConfFault}
@@ -7,8 +7,8 @@ use Rattle.pf_base.specs.declared.refused.ConfFault.TheVariants.{Refused}
 use Rattle.pf_maincf.specs.Settings.{Conf}
 use Rattle.pf_maincf.specs.declared.setting.Setting.{Setting}
 use Rattle.pf_params.specs.Expansion.{Answer}
-use Rattle.pf_params.specs.Names.{Source, expanded}
-use Rattle.pf_params.specs.Names.{Source as source}
+use Rattle.pf_params.specs.Names.{Source, depth_limit, expanded, name_value}
+use Rattle.pf_params.specs.Presets.{preset_of}
 use Rattle.pf_params.specs.Sources.{source_of}
 use Rattle.pf_params.specs.declared.flaw.Flaw.{Flaw}
 use Rattle.pf_params.specs.declared.flaw.Flaw.TheVariants.{BadForm, TooDeep, TooLong}
@@ -27,13 +27,9 @@ line_if false setting = record setting { line = 0 }
 abbrev pub settled : Conf → List Setting → Settled
 settled conf over = record { file = conf.file; settings = map (line_if true) conf.settings ++ map (line_if false) over }
 
--- no name stands for anything by default
-abbrev pub no_preset : List ℕ → Source
-no_preset name = source.text []
-
 -- what a name stands for
 abbrev pub settled_source : Settled → List ℕ → Source
-settled_source settled name = source_of no_preset settled.settings name
+settled_source settled name = source_of preset_of settled.settings name
 
 -- the cause of a refusal
 abbrev pub cause_of : Flaw → Cause
@@ -53,3 +49,7 @@ or_refused file (Err flaw) = Err (refused file flaw)
 -- the value of a text
 abbrev pub value_in : Settled → List ℕ → Result (List ℕ) ConfFault
 value_in settled text = or_refused settled.file (expanded (settled_source settled) text)
+
+-- the value of a name as it stands alone, one level above the names in a text
+abbrev pub value_alone : Settled → List ℕ → Answer
+value_alone settled name = name_value (settled_source settled) (depth_limit + 1) name

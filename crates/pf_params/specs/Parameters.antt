@@ -1,0 +1,93 @@
+-- What is read of the parameters, and which is refused first (postconf(5)). The causes of refusals and their order are postgate's own.
+use Rattle.std.specs.Prelude.{ℕ, ◌++◌, Bool, true, not, List, [], ◌∷◌, Option, None, Some, Result, Ok, Err, is_some, if◌then◌else◌}
+use Rattle.std.specs.Cmp.Lexicographic.{slice_cmp}
+use Rattle.std.specs.Option.{option_map_or}
+use Rattle.std.specs.Ordering.{nat_cmp, is_lt}
+use Rattle.pf_base.specs.declared.refused.Cause.{Cause}
+use Rattle.pf_base.specs.declared.refused.Cause.TheVariants.{C6, C14}
+use Rattle.pf_base.specs.declared.refused.Refused.{Refused}
+use Rattle.pf_catalogue.specs.Catalogue.{Preset, Row}
+use Rattle.pf_catalogue.specs.Catalogue.{Preset as preset}
+use Rattle.pf_catalogue.specs.Values.{value_of}
+use Rattle.pf_catalogue.specs.declared.kind.Kind.{Kind}
+use Rattle.pf_catalogue.specs.declared.kind.Kind.TheVariants.{FixedYes, Unset}
+use Rattle.pf_catalogue.specs.declared.value.Value.{Value}
+use Rattle.pf_catalogue.specs.declared.value.Value.TheVariants.{Text, Number, Yes, Items}
+use Rattle.pf_maincf.specs.Settings.{last_setting}
+use Rattle.pf_maincf.specs.declared.setting.Setting.{Setting}
+use Rattle.pf_params.specs.Expansion.{Answer}
+use Rattle.pf_params.specs.Settled.{Settled, cause_of, value_alone}
+use Rattle.pf_params.specs.declared.readings.Reading.{Reading}
+
+-- the line of the last setting of a name, 0 where it is not set
+abbrev pub line_of : Settled → List ℕ → ℕ
+line_of settled name = option_map_or (λ (s : Setting). s.line) (last_setting settled.settings name) 0
+
+-- the refusal of a name's setting
+abbrev pub refusal_of : Settled → List ℕ → Cause → Refused
+refusal_of settled name cause = record { file = settled.file; line = line_of settled name; cause = cause; name = name }
+
+-- a parameter of this kind may be as it is, set or not
+abbrev pub may_stand : Kind → Bool → Bool
+may_stand Unset is_set = not is_set
+may_stand kind is_set = true
+
+-- the cause of the refusal of a value that is none of its kind
+abbrev pub bad_value : Kind → Cause
+bad_value FixedYes = C14
+bad_value Unset = C14
+bad_value kind = C6
+
+-- the text of a default, which is the value where that is taken out of another one
+abbrev pub preset_text : Preset → List ℕ → List ℕ
+preset_text (preset.text bytes) value = bytes
+preset_text (preset.domain_of name) value = value
+
+-- the text of a parameter with this value
+abbrev pub raw_text : Settled → Row → List ℕ → List ℕ
+raw_text settled row value = option_map_or (λ (s : Setting). s.value) (last_setting settled.settings row.name) (preset_text row.preset value)
+
+-- what is read of a parameter with this value, if that says something
+abbrev pub reading_if : Settled → Row → List ℕ → Option Value → Result Reading Cause
+reading_if settled row text None = Err (bad_value row.kind)
+reading_if settled row text (Some value) =
+    if may_stand row.kind (is_some (last_setting settled.settings row.name))
+    then Ok (record { line = line_of settled row.name; raw = raw_text settled row text; text = text; value = value })
+    else Err C14
+
+abbrev pub reading_with : Settled → Row → List ℕ → Result Reading Cause
+reading_with settled row text = reading_if settled row text (value_of row.kind text)
+
+-- what is read of a parameter, or the cause of its refusal: first of its value, then of its kind
+abbrev pub reading_from : Settled → Row → Answer → Result Reading Cause
+reading_from settled row (Ok text) = reading_with settled row text
+reading_from settled row (Err flaw) = Err (cause_of flaw)
+
+unfoldable pub reading_of : Settled → Row → Result Reading Cause
+reading_of settled row = reading_from settled row (value_alone settled row.name)
+
+-- readings before others
+abbrev pub before : List Reading → Result (List Reading) Refused → Result (List Reading) Refused
+before front (Ok readings) = Ok (front ++ readings)
+before front (Err refusal) = Err refusal
+
+abbrev pub or_refused : Settled → Row → Result Reading Cause → Result (List Reading) Refused → Result (List Reading) Refused
+or_refused settled row (Ok reading) behind = before (reading ∷ []) behind
+or_refused settled row (Err cause) behind = Err (refusal_of settled row.name cause)
+
+-- what is read of these parameters in order, or the first refusal
+abbrev pub readings_of : Settled → List Row → Result (List Reading) Refused
+readings_of settled [] = Ok []
+readings_of settled (row ∷ rows) = or_refused settled row (reading_of settled row) (readings_of settled rows)
+
+-- of two refusals the one whose name is less in byte order, the first where they have one name
+abbrev pub with_lesser : Option Refused → Refused → Option Refused
+with_lesser None second = Some second
+with_lesser (Some first) second = if is_lt (slice_cmp nat_cmp second.name first.name) then Some second else Some first
+
+-- the items of a value, if it is a list
+abbrev pub items_in : Value → List (List ℕ)
+items_in Text = []
+items_in (Number n) = []
+items_in (Yes b) = []
+items_in (Items items) = items

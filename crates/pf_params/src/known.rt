@@ -1,0 +1,121 @@
+//! The settings of a main.cf and those that count after them, with what is known of the values of their names.
+ghost use Rattle.std.specs.Prelude.{◌≡◌, ◌++◌, map, IfOk, OnOk};
+ghost use Rattle.std.specs.Option.{option_copied};
+ghost use Rattle.pf_maincf.specs.Settings.{last_setting};
+ghost use Rattle.pf_params.specs.Names.{expanded};
+ghost use Rattle.pf_params.specs.Settled as spec;
+
+use crate::flaw::Flaw;
+use crate::lengths::Shapes;
+use crate::names::Names;
+use crate::rounds::shapes_of;
+use crate::table::{set_names, set_presets};
+use crate::values::{named_value, value_of};
+use pf_base::{Bytes, List, NoMemory};
+use pf_maincf::{MainCf, Setting};
+use std::alloc::Global;
+use std::marker::Model;
+
+/// The name of the file and all settings in order, with what is known of the values of names.
+#[derive(Drop)]
+pub(crate) struct Known {
+    file: Bytes,
+    settings: List<Setting>,
+    names: Names,
+    shapes: Shapes,
+}
+
+impl Model for Known {
+    ghost use Rattle.std.specs.Prelude.{◌≡◌};
+    ghost use Rattle.pf_params.specs.Levels.{AreShapes};
+    ghost use Rattle.pf_params.specs.Meanings.{AreNames};
+    ghost use Rattle.pf_params.specs.Names.{depth_limit};
+    ghost use Rattle.pf_params.specs.Settled.{Settled, settled_source};
+
+    ghost Value = { Settled };
+
+    ghost view = { λ s. record { file = s.file; settings = s.settings } };
+
+    ghost invariant = { λ s. AreNames s.names (settled_source (record { file = s.file; settings = s.settings })) × AreShapes s.names s.shapes × (s.shapes.levels ≡ depth_limit) };
+}
+
+// Adds settings behind others, at line 0 where they stand in no file.
+fn add_settings(
+    alloc: Global,
+    all: &mut List<Setting>,
+    settings: &[Setting],
+    in_file: bool,
+) -> Result<(), NoMemory>
+    ensures { OnOk result (all.new ≡ all.old ++ map (spec.line_if in_file) settings.now) }
+{
+    for setting in settings {
+        all.push(Setting {
+            line: if in_file { setting.line } else { 0 },
+            name: setting.name.copy(alloc)?,
+            value: setting.value.copy(alloc)?,
+        })?;
+    }
+    Ok(())
+}
+
+impl Known {
+    /// The settings of a main.cf, and behind them those that count after them, which have line 0.
+    pub(crate) fn new(alloc: Global, main: &MainCf, over: &List<Setting>) -> Result<Known, NoMemory>
+        ensures { IfOk result (λ known. known ≡ spec.settled main.now over.now) }
+    {
+        let mut settings = List::new(alloc);
+        add_settings(alloc, &mut settings, main.settings().as_slice(), true)?;
+        add_settings(alloc, &mut settings, over.as_slice(), false)?;
+        let mut names = Names::new(alloc);
+        set_presets(alloc, &mut names)?;
+        set_names(alloc, &mut names, settings.as_slice())?;
+        let shapes = shapes_of(alloc, &names)?;
+        Ok(Known {
+            file: main.file().copy(alloc)?,
+            settings,
+            names,
+            shapes,
+        })
+    }
+
+    /// The name of the file.
+    pub(crate) fn file(&self) -> &Bytes
+        ensures { result.now ≡ self.now.file }
+    {
+        &self.file
+    }
+
+    /// The last setting of a name.
+    pub(crate) fn last(&self, name: &[u8]) -> Option<&Setting>
+        ensures { option_copied result ≡ last_setting self.now.settings name.now }
+    {
+        self.settings
+            .as_slice()
+            .iter()
+            .rev()
+            .find(|setting| setting.name.as_slice() == name)
+    }
+
+    /// The value of a text, or why there is none.
+    pub(crate) fn text_value(
+        &self,
+        alloc: Global,
+        text: &[u8],
+    ) -> Result<Result<Bytes, Flaw>, NoMemory>
+        ensures { IfOk result (λ value. value ≡ expanded (spec.settled_source self.now) text.now) }
+    {
+        value_of(alloc, &self.names, &self.shapes, text)
+    }
+
+    /// The value of a name as it stands alone, or why there is none.
+    pub(crate) fn name_value(
+        &self,
+        alloc: Global,
+        name: &[u8],
+    ) -> Result<Result<Bytes, Flaw>, NoMemory>
+        ensures { IfOk result (λ value. value ≡ spec.value_alone self.now name.now) }
+    {
+        let name = Bytes::from_slice(alloc, name)?;
+        named_value(alloc, &self.names, &self.shapes, &name)
+    }
+}

@@ -1,0 +1,101 @@
+//! What is read of parameters.
+ghost use Rattle.std.specs.Prelude.{◌≡◌, ◌<◌, IfOk, is_some};
+ghost use Rattle.pf_catalogue.specs.Catalogue.{catalogue, row_at};
+ghost use Rattle.pf_params.specs.Parameters as spec;
+
+use crate::known::Known;
+use crate::refusals::{bad_value, cause_of, line_of, refusal_of};
+use pf_base::{Bytes, Cause, List, NoMemory, Refused};
+use pf_catalogue::{
+    Kind, PARAMS, Param, Preset, Value, kind_of, param_at, param_name, preset_of, value_of,
+};
+use std::alloc::Global;
+
+/// A parameter's line, 0 where it is not set, its text, its value, and what that says.
+#[derive(Debug, Drop)]
+pub(crate) struct Reading {
+    pub(crate) line: u64,
+    pub(crate) raw: Bytes,
+    pub(crate) text: Bytes,
+    pub(crate) value: Value,
+}
+
+// Whether a parameter of a kind may be as it is, set or not.
+fn may_stand(kind: Kind, is_set: bool) -> bool
+    ensures { result ≡ spec.may_stand kind is_set }
+{
+    match kind {
+        Kind::Unset => !is_set,
+        _ => true,
+    }
+}
+
+// The text of a parameter: that of its last setting, or its default, which is its value where it is taken out of another one.
+fn raw_text(alloc: Global, known: &Known, p: Param, value: &Bytes) -> Result<Bytes, NoMemory>
+    ensures { IfOk result (λ raw. raw ≡ spec.raw_text known.now (row_at p) value.now) }
+{
+    match known.last(param_name(p)) {
+        Some(setting) => setting.value.copy(alloc),
+        None => match preset_of(p) {
+            Preset::Is(text) => Bytes::from_slice(alloc, text),
+            Preset::DomainOf(_) => value.copy(alloc),
+        },
+    }
+}
+
+// What is read of a parameter with this value.
+fn reading_with(
+    alloc: Global,
+    known: &Known,
+    p: Param,
+    text: Bytes,
+) -> Result<Result<Reading, Cause>, NoMemory>
+    ensures { IfOk result (λ reading. reading ≡ spec.reading_with known.now (row_at p) text) }
+{
+    let kind = kind_of(p);
+    let Some(value) = value_of(alloc, kind, text.as_slice())? else {
+        return Ok(Err(bad_value(kind)));
+    };
+    if !may_stand(kind, known.last(param_name(p)).is_some()) {
+        return Ok(Err(Cause::C14));
+    }
+    let raw = raw_text(alloc, known, p, &text)?;
+    Ok(Ok(Reading {
+        line: line_of(known, param_name(p)),
+        raw,
+        text,
+        value,
+    }))
+}
+
+/// What is read of a parameter, or the cause of its refusal.
+pub(crate) fn reading_of(
+    alloc: Global,
+    known: &Known,
+    p: Param,
+) -> Result<Result<Reading, Cause>, NoMemory>
+    ensures { IfOk result (λ reading. reading ≡ spec.reading_of known.now (row_at p)) }
+{
+    match known.name_value(alloc, param_name(p))? {
+        Err(flaw) => Ok(Err(cause_of(flaw))),
+        Ok(text) => reading_with(alloc, known, p, text),
+    }
+}
+
+/// What is read of all parameters in the order of the table, or the first refusal.
+pub(crate) fn readings_of(
+    alloc: Global,
+    known: &Known,
+) -> Result<Result<List<Reading>, Refused>, NoMemory>
+    ensures { IfOk result (λ readings. readings ≡ spec.readings_of known.now catalogue) }
+{
+    let mut readings = List::new(alloc);
+    for place in 0..PARAMS {
+        let p = param_at(place);
+        match reading_of(alloc, known, p)? {
+            Ok(reading) => readings.push(reading)?,
+            Err(cause) => return Ok(Err(refusal_of(alloc, known, param_name(p), cause)?)),
+        }
+    }
+    Ok(Ok(readings))
+}
