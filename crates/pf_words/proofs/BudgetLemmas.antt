@@ -1,5 +1,6 @@
 -- The number that std reads is the one that the digits write.
-use Rattle.std.proofs.Common.{◌≡◌, ◌<◌, ◌^◌, ◌&&◌, ℕ, Bool, true, false, List, length, true≢false, Ok, Err, None, refl, sym, ap, arith, rules, ltb-true}
+use Rattle.std.proofs.Common.{◌≡◌, ◌<◌, ◌^◌, ℕ, true, List, length, Ok, Err, None, ap, arith, rules, ltb-true}
+use Rattle.std.proofs.lemmas.Bool.{and_parts}
 use Rattle.std.specs.Char.{is_ascii_digit}
 use Rattle.std.specs.List.{list_all}
 use Rattle.std.specs.Str.Parse.{ParsesUnsigned, digits_value}
@@ -9,12 +10,8 @@ use Rattle.pf_words.specs.Numbers.{at_most_greatest, budget_of, is_counting}
 own : IsNumeralModel (λ digits. list_all is_ascii_digit digits ≡ true) (digits_value 10)
 own = numerals_by_value _ (search rules)
 
-last_true : (a b : Bool) → (a && b) ≡ true → b ≡ true
-last_true true b both = both
-last_true false b both = absurd (true≢false (sym both))
-
 has_digits : (text : List ℕ) → is_counting text ≡ true → list_all is_ascii_digit text ≡ true
-has_digits text counts = last_true _ _ counts
+has_digits text counts = (and_parts _ _ counts).1
 
 -- a number that was read is the one of the text
 pub budget_read : (text : List ℕ) (number : ℕ) → is_counting text ≡ true → ParsesUnsigned {E = ℕ} 64 10 text (Ok number)
@@ -27,12 +24,8 @@ budget_read text number counts read =
 not_counted : (number : ℕ) → (number < 2 ^ 64 → ⊥) → None ≡ at_most_greatest number
 not_counted number over = grind arith
 
-first_true : (a b : Bool) → (a && b) ≡ true → a ≡ true
-first_true true b both = refl
-first_true false b both = both
-
 not_empty : (text : List ℕ) → is_counting text ≡ true → 0 < length text
-not_empty text counts = ltb-true 0 (length text) (first_true _ _ (first_true _ _ counts))
+not_empty text counts = ltb-true 0 (length text) (and_parts _ _ (and_parts _ _ counts).0).0
 
 -- digits of which none was read write too great a number
 pub budget_not_read : (E : Type 0) (text : List ℕ) (error : E) → is_counting text ≡ true → ParsesUnsigned {E = E} 64 10 text (Err error)

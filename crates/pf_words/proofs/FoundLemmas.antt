@@ -1,5 +1,6 @@
 -- What clap's answer says of the rows of the words.
-use Rattle.std.proofs.Common.{◌≡◌, ◌&&◌, Bool, true, false, List, [], ◌∷◌, None, Some, refl, ap, ◌∙◌, inl, inr}
+use Rattle.std.proofs.Common.{◌≡◌, true, List, [], ◌∷◌, None, Some, refl, ap, ◌∙◌, inl, inr}
+use Rattle.std.proofs.lemmas.Bool.{and_parts}
 use Rattle.clap.specs.Words.{App, HasKind, HasMatchesOf, IsAmong, Kinds, Row, Text, fault_of, is_simple, is_simple_and_free, matches_of, all_of, first_value, found_of, matched_of, raw_values}
 use Rattle.std.specs.Prelude.{option_map}
 use Rattle.clap.proofs.WalkLemmas.{first_value-rows, raw_values-rows}
@@ -20,16 +21,12 @@ with_fault : (faults : Kinds) (rows : List Row) (fault : ErrorKind) → IsAmong 
 with_fault [] rows fault among = absurd among
 with_fault (first ∷ others) rows fault among = refl
 
-first_true : (a b : Bool) → (a && b) ≡ true → a ≡ true
-first_true true b both = refl
-first_true false b both = both
-
 -- where clap answers matches, they have the rows of the words
 pub rows_taken : (app : App) (words : List Text) (matches : ArgMatches) → is_simple_and_free app ≡ true → fault_of app words ≡ []
     → HasMatchesOf app words matches → Some (rows_found matches) ≡ rows_in app words
 unfolding rows_found rows_in
 rows_taken app words matches free none has =
-    without_fault (fault_of app words) _ (matches_of app words) none (has (first_true (is_simple app) (is_free_app (built app)) free)).0
+    without_fault (fault_of app words) _ (matches_of app words) none (has (and_parts (is_simple app) (is_free_app (built app)) free).0).0
 
 -- where clap finds a fault in the words, they have none
 pub rows_refused : (app : App) (words : List Text) (error : Error) (k : ErrorKind) → k ≡ kind_of error → (k ≡ OutOfMemory → ⊥) → HasKind (fault_of app words) error
