@@ -1,14 +1,15 @@
 -- Worked examples of the definitions, each by computation.
-use Rattle.std.proofs.Common.{◌≡◌, ℕ, true, false, List, [], ◌∷◌, map, Option, None, Some, refl, codes}
+use Rattle.std.proofs.Common.{◌≡◌, ℕ, true, false, List, [], ◌∷◌, map, Option, None, Some, option_map, refl, codes}
 use Rattle.std.specs.Fmt.{decimal, digits}
 use Rattle.std.specs.List.{range_with_len, slice_split}
 use Rattle.std.specs.Prelude.{◌==◌}
-use Rattle.clap.specs.Words.{is_simple_and_free}
+use Rattle.clap.specs.Words.{fault_of, is_simple_and_free}
+use Rattle.clap.specs.declared.error.kind.ErrorKind.TheVariants as kind
 use Rattle.clap.proofs.OnLiterals.{clap_on_literals}
 use Rattle.pf_maincf.specs.declared.setting.Setting.{Setting}
 use Rattle.pf_words.specs.Address.{ipv4_of, ipv4_of_octets, digit_at, has_digit, has_leading_digit, octet_of, three_digits, ◌>>=◌}
 use Rattle.pf_words.specs.Commands.{postconf_app, smtpd_app}
-use Rattle.pf_words.specs.Found.{rows_in}
+use Rattle.pf_words.specs.Found.{has_flag, rows_in, value_in}
 use Rattle.pf_words.specs.Numbers.{budget_of, is_counting}
 use Rattle.pf_words.specs.Postconf.{conf_in, conf_of}
 use Rattle.pf_words.specs.Sets.{setting_of_word, settings_of_words}
@@ -22,12 +23,12 @@ use Rattle.pf_words.specs.declared.words.Words.{Words}
 use Rattle.pf_words.specs.declared.words.Words.TheVariants.{Smtpd, Postconf}
 
 -- the words of a line in which single blanks part them; two blanks have an empty word between them
-abbrev parted : List ℕ → List (List ℕ)
-parted = slice_split (λ b. b == 32)
+abbrev words_in : List ℕ → List (List ℕ)
+words_in = slice_split (λ b. b == 32)
 
 -- what a line says
 abbrev said : List ℕ → Option Words
-said line = words_of (parted line)
+said line = words_of (words_in line)
 
 -- digits
 last_digit : digit_at (codes "407") 2 ≡ 7
@@ -117,7 +118,7 @@ carriage_return_inside : setting_of_word (codes "a=b\rc") ≡ Some (set (codes "
 unfolding setting_of_word
 carriage_return_inside = refl
 
-names_differ : map settings_of_words (parted (codes "a=1 b=1") ∷ parted (codes "a=1 b=1 a=2") ∷ parted (codes "a=1 b") ∷ [] ∷ [])
+names_differ : map settings_of_words (words_in (codes "a=1 b=1") ∷ words_in (codes "a=1 b=1 a=2") ∷ words_in (codes "a=1 b") ∷ [] ∷ [])
     ≡ Some (set (codes "a") (codes "1") ∷ set (codes "b") (codes "1") ∷ []) ∷ None ∷ None ∷ Some [] ∷ []
 unfolding settings_of_words setting_of_word
 names_differ = refl
@@ -126,6 +127,22 @@ names_differ = refl
 commands_are_simple : map is_simple_and_free (smtpd_app ∷ postconf_app ∷ []) ≡ true ∷ true ∷ []
 unfolding clap_on_literals
 commands_are_simple = refl
+
+-- the kinds of clap's faults: a value twice, none, no such option
+faults_of_words : map (λ line. fault_of smtpd_app (words_in line)) (codes "smtpd -m a -m b" ∷ codes "smtpd -m" ∷ codes "smtpd -z" ∷ codes "smtpd -m a" ∷ [])
+    ≡ (kind.ArgumentConflict ∷ []) ∷ (kind.InvalidValue ∷ []) ∷ (kind.UnknownArgument ∷ []) ∷ [] ∷ []
+unfolding clap_on_literals
+faults_of_words = refl
+
+flags_found : map (λ line. option_map (has_flag (codes "set")) (rows_in postconf_app (words_in line))) (codes "postconf -n" ∷ codes "postconf true" ∷ codes "postconf -z" ∷ [])
+    ≡ Some true ∷ Some false ∷ None ∷ []
+unfolding rows_in clap_on_literals
+flags_found = refl
+
+values_found : map (λ line. option_map (value_in (codes "mail")) (rows_in smtpd_app (words_in line))) (codes "smtpd -m a" ∷ codes "smtpd -l a" ∷ [])
+    ≡ Some (Some (codes "a")) ∷ Some None ∷ []
+unfolding rows_in clap_on_literals
+values_found = refl
 
 -- smtpd
 abbrev smtpd : SmtpdWords
@@ -236,7 +253,7 @@ unfolding words_of conf_of conf_in rows_in clap_on_literals settings_of_words se
 edit_or_print = refl
 
 -- other commands
-no_such_command : map words_of ([] ∷ parted [] ∷ parted (codes "Smtpd -p 10.1.2.3 -m mail") ∷ parted (codes "postmap a") ∷ parted (codes "-n postconf") ∷ [])
+no_such_command : map words_of ([] ∷ words_in [] ∷ words_in (codes "Smtpd -p 10.1.2.3 -m mail") ∷ words_in (codes "postmap a") ∷ words_in (codes "-n postconf") ∷ [])
     ≡ None ∷ None ∷ None ∷ None ∷ None ∷ []
 unfolding words_of
 no_such_command = refl

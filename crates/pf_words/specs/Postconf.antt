@@ -1,6 +1,6 @@
 -- The words of postconf (postconf(1)): postconf [-n or -d] [-x] [-h or -H] [-c folder] [-o name=value] [name ..], and postconf -e [-c folder]
 -- name=value .. for an edit. Which options stand beside which is postgate's own.
-use Rattle.std.specs.Prelude.{ℕ, ◌&&◌, ◌||◌, Bool, true, not, nat_lt, List, Option, Some, None, length, codes, is_some, if◌then◌else◌}
+use Rattle.std.specs.Prelude.{ℕ, ◌&&◌, ◌||◌, Bool, true, false, not, nat_lt, List, Option, Some, None, length, codes, is_some, if◌then◌else◌}
 use Rattle.std.specs.Option.{option_and_then, option_map_or}
 use Rattle.clap.specs.Words.{Row}
 use Rattle.pf_words.specs.Commands.{postconf_app}
@@ -48,10 +48,6 @@ is_over over = option_map_or (λ word. is_some (setting_of_word word)) over true
 abbrev pub are_edits : List (List ℕ) → Bool
 are_edits words = nat_lt 0 (length words) && is_some (settings_of_words words)
 
--- the words behind -e are edits
-abbrev pub has_edits : List Row → Bool
-has_edits rows = if has_flag (codes "edit") rows then are_edits (rest_in rows) else true
-
 -- what the options and the further words say
 abbrev pub conf_with : List Row → ConfWords
 conf_with rows = record {
@@ -63,10 +59,18 @@ conf_with rows = record {
   rest = rest_in rows;
 }
 
--- the same, where they are one question or one edit
+-- an edit is asked
+abbrev pub is_edit : ConfMode → Bool
+is_edit mode.Edit = true
+is_edit other = false
+
+-- the word of -o and the words of an edit set parameters
+abbrev pub sets_parameters : ConfWords → Bool
+sets_parameters conf = is_over conf.over && (if is_edit conf.mode then are_edits conf.rest else true)
+
+-- what they say, where they are one question or one edit, and set parameters where they have to
 unfoldable pub conf_in : List Row → Option ConfWords
-conf_in rows =
-    if is_one_question rows && is_over (value_in (codes "over") rows) && has_edits rows then Some (conf_with rows) else None
+conf_in rows = if is_one_question rows && sets_parameters (conf_with rows) then Some (conf_with rows) else None
 
 -- what the words of postconf say; none where they are not of its forms
 unfoldable pub conf_of : List (List ℕ) → Option ConfWords

@@ -1,8 +1,8 @@
 -- The words of a command line, without the program's own name: which command they name, and what they say. The commands are postgate's own.
-use Rattle.std.specs.Prelude.{ℕ, Bool, false, List, Option, Some, None, codes, slice_get, if◌then◌else◌}
+use Rattle.std.specs.Prelude.{◌≡◌, ℕ, Bool, false, true, List, Option, Some, None, codes, slice_get, if◌then◌else◌}
 use Rattle.std.specs.Option.{option_map, option_map_or}
 use Rattle.std.specs.Str.{bytes_eq}
-use Rattle.pf_words.specs.Postconf.{conf_of}
+use Rattle.pf_words.specs.Postconf.{conf_of, sets_parameters}
 use Rattle.pf_words.specs.Smtpd.{smtpd_of}
 use Rattle.pf_words.specs.declared.words.Words.{Words}
 use Rattle.pf_words.specs.declared.words.Words.TheVariants.{Smtpd, Postconf}
@@ -27,3 +27,8 @@ mail_name other = None
 abbrev pub log_name : Option Words → Option (List ℕ)
 log_name (Some (Smtpd words)) = words.log
 log_name other = None
+
+-- the word of -o and the words of an edit set parameters
+abbrev pub SetsParameters : Words → Type 0
+SetsParameters (Smtpd words) = Unit {0}
+SetsParameters (Postconf words) = sets_parameters words ≡ true

@@ -1,6 +1,6 @@
 //! The words of postconf: `postconf [-n or -d] [-x] [-h or -H] [-c folder] [-o name=value] [name ..]`, and
 //! `postconf -e [-c folder] name=value ..`.
-ghost use Rattle.std.specs.Prelude.{◌≡◌, IfOk, map, option_map};
+ghost use Rattle.std.specs.Prelude.{◌≡◌, true, IfOk, IfSome, map};
 ghost use Rattle.std.specs.String.{string_bytes};
 ghost use Rattle.clap.specs.Words.{app_of};
 ghost use Rattle.pf_words.specs.Commands as commands;
@@ -116,13 +116,13 @@ fn is_one_question(matches: &ArgMatches<'_>) -> bool
 }
 
 // Whether the value of `-o`, if there is one, sets a parameter.
-fn is_over(alloc: Global, over: Option<&str>) -> Result<bool, NoMemory>
-    ensures { IfOk result (λ is. is ≡ postconf.is_over (option_map (λ word. word.now) over.entry)) }
+fn is_over(alloc: Global, over: &Option<Bytes>) -> Result<bool, NoMemory>
+    ensures { IfOk result (λ is. is ≡ postconf.is_over over.now) }
 {
     match over {
         None => Ok(true),
         Some(word) => {
-            let setting = setting_of_word(alloc, word.as_bytes())?;
+            let setting = setting_of_word(alloc, word.as_slice())?;
             Ok(setting.is_some())
         }
     }
@@ -139,15 +139,16 @@ fn are_edits(alloc: Global, words: &[Bytes]) -> Result<bool, NoMemory>
     Ok(settings.is_some())
 }
 
-// Whether the further words are such, where `-e` was given.
-fn has_edits(alloc: Global, matches: &ArgMatches<'_>) -> Result<bool, NoMemory>
-    ensures { IfOk result (λ has. has ≡ postconf.has_edits (rows_found matches.now)) }
+// Whether the word of `-o` and the words of an edit set parameters.
+fn sets_parameters(alloc: Global, conf: &ConfWords) -> Result<bool, NoMemory>
+    ensures { IfOk result (λ sets. sets ≡ postconf.sets_parameters conf.now) }
 {
-    if has_flag(matches, "edit") {
-        let words = rest_in(alloc, matches)?;
-        are_edits(alloc, words.as_slice())
-    } else {
-        Ok(true)
+    if !is_over(alloc, &conf.over)? {
+        return Ok(false);
+    }
+    match conf.mode {
+        ConfMode::Edit => are_edits(alloc, conf.rest.as_slice()),
+        ConfMode::All | ConfMode::Set | ConfMode::Defaults => Ok(true),
     }
 }
 
@@ -166,13 +167,15 @@ fn conf_with(alloc: Global, matches: &ArgMatches<'_>) -> Result<ConfWords, NoMem
 
 #[tactic(auto, unfolding(crate::specs::Postconf::conf_in))]
 fn conf_in(alloc: Global, matches: &ArgMatches<'_>) -> Result<Option<ConfWords>, NoMemory>
-    ensures { IfOk result (λ conf. conf ≡ postconf.conf_in (rows_found matches.now)) }
+    ensures is { IfOk result (λ conf. conf ≡ postconf.conf_in (rows_found matches.now)) }
+    ensures sets { IfOk result (λ conf. IfSome conf (λ words. postconf.sets_parameters words ≡ true)) }
 {
-    if is_one_question(matches)
-        && is_over(alloc, value_in(matches, "over"))?
-        && has_edits(alloc, matches)?
-    {
-        Ok(Some(conf_with(alloc, matches)?))
+    if !is_one_question(matches) {
+        return Ok(None);
+    }
+    let conf = conf_with(alloc, matches)?;
+    if sets_parameters(alloc, &conf)? {
+        Ok(Some(conf))
     } else {
         Ok(None)
     }
@@ -181,7 +184,8 @@ fn conf_in(alloc: Global, matches: &ArgMatches<'_>) -> Result<Option<ConfWords>,
 /// What the words of postconf say; None where they are not of its forms.
 #[tactic(auto, unfolding(crate::specs::Postconf::conf_of))]
 pub(crate) fn conf_words(alloc: Global, words: &[String]) -> Result<Option<ConfWords>, NoMemory>
-    ensures { IfOk result (λ conf. conf ≡ postconf.conf_of (map string_bytes words.now)) }
+    ensures is { IfOk result (λ conf. conf ≡ postconf.conf_of (map string_bytes words.now)) }
+    ensures sets { IfOk result (λ conf. IfSome conf (λ words. postconf.sets_parameters words ≡ true)) }
 {
     let command = postconf_command(alloc)?;
     match matches_in(command, words)? {

@@ -1,5 +1,5 @@
 //! The words of a command line, without the program's own name.
-ghost use Rattle.std.specs.Prelude.{◌≡◌, codes, IfOk, map, option_map};
+ghost use Rattle.std.specs.Prelude.{◌≡◌, codes, IfOk, IfSome, map, option_map};
 ghost use Rattle.std.specs.String.{string_bytes};
 ghost use Rattle.pf_words.specs.Words as spec;
 
@@ -32,7 +32,8 @@ fn names_command(name: &str, words: &[String]) -> bool
 /// postconf(1), and how options are written is that of the kit's clap.
 #[tactic(auto, unfolding(crate::specs::Words::words_of))]
 pub fn words_of(alloc: Global, words: &[String]) -> Result<Option<Words>, NoMemory>
-    ensures { IfOk result (λ said. said ≡ spec.words_of (map string_bytes words.now)) }
+    ensures is { IfOk result (λ said. said ≡ spec.words_of (map string_bytes words.now)) }
+    ensures sets { IfOk result (λ said. IfSome said spec.SetsParameters) }
 {
     if names_command("smtpd", words) {
         match smtpd_words(alloc, words)? {
