@@ -1,0 +1,4 @@
+pub mod AddressLemmas
+pub mod BudgetLemmas
+pub mod FoundLemmas
+pub mod Rows

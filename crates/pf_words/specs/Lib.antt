@@ -1,0 +1,9 @@
+pub mod Address
+pub mod Commands
+pub mod Found
+pub mod Numbers
+pub mod OptionsMeant
+pub mod Postconf
+pub mod Sets
+pub mod Smtpd
+pub mod Words

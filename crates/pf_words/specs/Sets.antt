@@ -1,0 +1,31 @@
+-- Words that set a parameter, name=value (postconf(1), -e and -o). Which settings a line can say is pf_maincf's.
+use Rattle.std.specs.Prelude.{ℕ, ◌+◌, ◌==◌, List, [], ◌∷◌, Option, Some, None, take, drop, if◌then◌else◌}
+use Rattle.std.specs.List.{position}
+use Rattle.std.specs.Option.{option_and_then, option_map}
+use Rattle.pf_maincf.specs.Edit.{are_sets, is_set}
+use Rattle.pf_maincf.specs.declared.setting.Setting.{Setting}
+
+-- a word parted at a place, which belongs to neither part
+abbrev pub parted : List ℕ → ℕ → Setting
+parted word place = record { line = 0; name = take place word; value = drop (place + 1) word }
+
+-- a setting, where an edit can write it
+abbrev pub where_set : Setting → Option Setting
+where_set set = if is_set set then Some set else None
+
+-- a word is parted at its first equals sign, and its parts are those of a setting that an edit can write
+unfoldable pub setting_of_word : List ℕ → Option Setting
+setting_of_word word = option_and_then (λ place. where_set (parted word place)) (position (λ b. b == 61) word)
+
+-- what each word is, where each is something
+abbrev pub all_of : {A : Type 0} → (List ℕ → Option A) → List (List ℕ) → Option (List A)
+all_of f [] = Some []
+all_of f (word ∷ words) = option_and_then (λ first. option_map (λ others. first ∷ others) (all_of f words)) (f word)
+
+-- settings, where an edit can write each of them and no name comes twice
+abbrev pub where_sets : List Setting → Option (List Setting)
+where_sets sets = if are_sets sets then Some sets else None
+
+-- the settings of words in order, where each is one and no name comes twice
+unfoldable pub settings_of_words : List (List ℕ) → Option (List Setting)
+settings_of_words words = option_and_then where_sets (all_of setting_of_word words)
