@@ -4,9 +4,10 @@ ghost use Rattle.std.specs.Prelude.{◌≡◌, None, IfOk};
 ghost use Rattle.std.specs.Io.{ReadsAtMost};
 
 use pf_base::{Failed, Files, OuterFault, Sink, Source};
-use std::fs::File;
+use std::fs::{File, OpenOptions, Permissions};
 use std::io::{ErrorKind, Read, Write};
-use std::os::unix::fs::FileExt;
+use std::os::unix::fs::{FileExt, OpenOptionsExt, PermissionsExt};
+use std::path::PathBuf;
 use std::{fs, io};
 
 /// Reads a stream.
@@ -137,14 +138,65 @@ impl<'a> RealFiles<'a> {
         file.read_at(buf, at)
     }
 
-    // Writes the bytes beside the file, and puts the new file in its place once it is whole on the disk.
-    fn write_beside(&self, name: &str, bytes: &[u8]) -> io::Result<()> {
-        let beside = format!(in self.rt.alloc(); "{name}.new")?;
-        let mut file = fs::create(self.rt, beside.as_str())?;
+    // The file that a name stands for, behind links. A name of nothing stands for itself.
+    fn behind_links(&self, name: &str) -> io::Result<PathBuf> {
+        match fs::symlink_metadata(self.rt, name) {
+            Ok(metadata) if metadata.is_symlink() => fs::canonicalize(self.rt, name),
+            Err(fault) if fault.kind() != ErrorKind::NotFound => Err(fault),
+            _ => Ok(PathBuf::from_str(self.rt.alloc(), name)?),
+        }
+    }
+
+    // The permissions of a file, if it is there.
+    fn permissions(&self, name: &str) -> io::Result<Option<Permissions>> {
+        match fs::metadata(self.rt, name) {
+            Ok(metadata) => Ok(Some(metadata.permissions())),
+            Err(fault) if fault.kind() == ErrorKind::NotFound => Ok(None),
+            Err(fault) => Err(fault),
+        }
+    }
+
+    // Makes an empty file that no more may read and write than these permissions let, in the place of one that was left
+    // by a run that was broken off.
+    fn make_file(&self, name: &str, permissions: &Option<Permissions>) -> io::Result<File> {
+        let _ = fs::remove_file(self.rt, name);
+        let mut options = OpenOptions::new();
+        options.write(true).create_new(true);
+        if let Some(permissions) = permissions {
+            options.mode(permissions.mode());
+        }
+        options.open(self.rt, name)
+    }
+
+    // Writes the bytes to a file that was made beside, and puts it in the place of the other once it is whole on the disk.
+    fn put_in_place(
+        &self,
+        mut file: File,
+        beside: &str,
+        bytes: &[u8],
+        permissions: Option<Permissions>,
+        name: &str,
+    ) -> io::Result<()> {
         file.write_all(bytes)?;
+        if let Some(permissions) = permissions {
+            file.set_permissions(permissions)?;
+        }
         file.sync_all()?;
-        drop(file);
-        fs::rename(self.rt, beside.as_str(), name)
+        fs::rename(self.rt, beside, name)
+    }
+
+    // Replaces the file behind links, which keeps its permissions, by a new one beside it. Where that fails, none is left
+    // beside it.
+    fn write_beside(&self, name: &str, bytes: &[u8]) -> io::Result<()> {
+        let path = self.behind_links(name)?;
+        let permissions = self.permissions(path.as_str())?;
+        let beside = format!(in self.rt.alloc(); "{}.new", path.as_str())?;
+        let file = self.make_file(beside.as_str(), &permissions)?;
+        let put = self.put_in_place(file, beside.as_str(), bytes, permissions, path.as_str());
+        if put.is_err() {
+            let _ = fs::remove_file(self.rt, beside.as_str());
+        }
+        put
     }
 }
 

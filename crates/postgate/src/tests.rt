@@ -1,7 +1,18 @@
 use crate::real::{FileSink, RealFiles, Writing};
-use pf_base::{Files, Sink};
+use pf_base::{Files, OuterFault, Sink};
 use std::fs;
+use std::fs::Permissions;
+use std::os::unix::fs::{PermissionsExt, symlink};
 use std::test::Fail;
+
+fn replaced(rt: &HostRuntime, name: &str, bytes: &[u8]) -> Result<(), OuterFault> {
+    RealFiles::new(rt).replace(name, bytes)
+}
+
+// There is a file, a folder or a link of this name.
+fn is_there(rt: &HostRuntime, name: &str) -> bool {
+    fs::symlink_metadata(rt, name).is_ok()
+}
 
 #[test]
 fn a_file_is_made_at_the_first_write(rt: HostRuntime) -> Result<(), Fail> {
@@ -15,6 +26,7 @@ fn a_file_is_made_at_the_first_write(rt: HostRuntime) -> Result<(), Fail> {
     );
     let mut lost = FileSink::new(&rt, "record/below");
     assert_eq!(rt; lost.write(b"M 1\n").is_err(), true);
+    fs::remove_file(&rt, "record")?;
     Ok(())
 }
 
@@ -33,6 +45,7 @@ fn files_are_read_and_replaced(rt: HostRuntime) -> Result<(), Fail> {
     assert_eq!(rt; files.size("conf/below").is_err(), true);
     assert_eq!(rt; files.read_at("none", 0, &mut buf).is_err(), true);
     assert_eq!(rt; files.replace("conf/below", b"").is_err(), true);
+    fs::remove_file(&rt, "conf")?;
     Ok(())
 }
 
@@ -40,5 +53,68 @@ fn files_are_read_and_replaced(rt: HostRuntime) -> Result<(), Fail> {
 fn standard_error_takes_a_line(rt: HostRuntime) -> Result<(), Fail> {
     let mut log = Writing::new(rt.stderr());
     assert_eq!(rt; log.write(b"3 RCPT <joe@other.test> accept\n"), Ok(()));
+    Ok(())
+}
+
+#[test]
+fn a_replaced_file_keeps_its_permissions(rt: HostRuntime) -> Result<(), Fail> {
+    fs::write(&rt, "kept", "a")?;
+    fs::set_permissions(&rt, "kept", Permissions::from_mode(0o622))?;
+    assert_eq!(rt; replaced(&rt, "kept", b"b"), Ok(()));
+    let permissions = fs::metadata(&rt, "kept")?.permissions();
+    assert_eq!(rt; permissions.mode() & 0o777, 0o622);
+    fs::remove_file(&rt, "kept")?;
+    Ok(())
+}
+
+#[test]
+fn a_link_stays_and_its_file_is_replaced(rt: HostRuntime) -> Result<(), Fail> {
+    fs::create_dir(&rt, "folder")?;
+    fs::write(&rt, "folder/target", "a")?;
+    symlink(&rt, "target", "folder/link")?;
+    symlink(&rt, "folder/link", "link")?;
+    assert_eq!(rt; replaced(&rt, "link", b"b"), Ok(()));
+    assert_eq!(rt; fs::read_link(&rt, "link")?.as_str(), "folder/link");
+    assert_eq!(rt; fs::read_link(&rt, "folder/link")?.as_str(), "target");
+    assert_eq!(rt; fs::read_to_string(&rt, "folder/target")?.as_str(), "b");
+    fs::remove_file(&rt, "link")?;
+    fs::remove_dir_all(&rt, "folder")?;
+    Ok(())
+}
+
+#[test]
+fn a_link_to_nothing_is_a_fault(rt: HostRuntime) -> Result<(), Fail> {
+    symlink(&rt, "nothing", "dangling")?;
+    assert_eq!(rt; replaced(&rt, "dangling", b"b"), Err(OuterFault::Failed));
+    assert_eq!(rt; is_there(&rt, "nothing"), false);
+    assert_eq!(rt; is_there(&rt, "nothing.new"), false);
+    assert_eq!(rt; is_there(&rt, "dangling.new"), false);
+    fs::remove_file(&rt, "dangling")?;
+    Ok(())
+}
+
+#[test]
+fn a_name_below_a_plain_file_is_a_fault(rt: HostRuntime) -> Result<(), Fail> {
+    fs::write(&rt, "plain", "a")?;
+    assert_eq!(rt; replaced(&rt, "plain/below", b"b"), Err(OuterFault::Failed));
+    fs::remove_file(&rt, "plain")?;
+    Ok(())
+}
+
+#[test]
+fn a_folder_is_a_fault_and_nothing_is_left_beside(rt: HostRuntime) -> Result<(), Fail> {
+    fs::create_dir(&rt, "taken")?;
+    assert_eq!(rt; replaced(&rt, "taken", b"b"), Err(OuterFault::Failed));
+    assert_eq!(rt; is_there(&rt, "taken.new"), false);
+    fs::remove_dir(&rt, "taken")?;
+    Ok(())
+}
+
+#[test]
+fn a_file_that_was_not_there_is_made(rt: HostRuntime) -> Result<(), Fail> {
+    assert_eq!(rt; replaced(&rt, "made", b"b"), Ok(()));
+    assert_eq!(rt; fs::read_to_string(&rt, "made")?.as_str(), "b");
+    assert_eq!(rt; is_there(&rt, "made.new"), false);
+    fs::remove_file(&rt, "made")?;
     Ok(())
 }
