@@ -1,7 +1,8 @@
-use pf_base::{Bytes, Cause, ConfFault, List, NoMemory, decimal};
-use pf_maincf::MainCf;
+use crate::support::settings_of;
+use pf_base::{Bytes, Cause, ConfFault, NoMemory, decimal};
 use pf_params::Settings;
 use std::alloc::Global;
+use std::env;
 use std::test::Fail;
 
 const CONF: &[u8] = b"x = X y\ne =\ny = <$x>\na = $b\nb = $a\nx1 = one\nx = X z\n";
@@ -73,13 +74,6 @@ const FLAWS: &[(&str, Cause)] = &[
     ("${e?$a}${a:x}", Cause::C4),
     ("$a$", Cause::C5),
 ];
-
-fn settings_of(alloc: Global, text: &[u8]) -> Result<Settings, NoMemory> {
-    match MainCf::read(alloc, b"main.cf", text) {
-        Ok(main) => Settings::new(alloc, &main, &List::new(alloc)),
-        Err(_) => Err(NoMemory),
-    }
-}
 
 // Why a text has no value.
 fn flaw(alloc: Global, settings: &Settings, text: &[u8]) -> Option<Cause> {
@@ -183,5 +177,53 @@ fn depth_and_length_have_their_limits(rt: HostRuntime) -> Result<(), Fail> {
     ] {
         assert!(rt; doubled(alloc, first, count, text)? == end, "{count} names");
     }
+    Ok(())
+}
+
+// A main.cf of so many settings, each with ten names.
+fn many(alloc: Global, count: u64) -> Result<Bytes, NoMemory> {
+    let mut text = Bytes::from_slice(
+        alloc,
+        b"x0 = v0\nx1 = v1\nx2 = v2\nx3 = v3\nx4 = v4\nx5 = v5\nx6 = v6\nx7 = v7\nx8 = v8\nx9 = v9\n",
+    )?;
+    for n in 0..count {
+        let number = decimal(alloc, n)?;
+        text.extend_all(&[
+            b"s",
+            number.as_bytes(),
+            b" = $x0 $x1 $x2 $x3 $x4 $x5 $x6 $x7 $x8 $x9\n",
+        ])?;
+    }
+    Ok(text)
+}
+
+// The lengths of their values, summed.
+fn length_of_many(alloc: Global, count: u64) -> Result<u64, NoMemory> {
+    let conf = many(alloc, count)?;
+    let settings = settings_of(alloc, conf.as_slice())?;
+    let mut length: u64 = 0;
+    for n in 0..count {
+        let number = decimal(alloc, n)?;
+        let mut text = Bytes::from_slice(alloc, b"$s")?;
+        text.extend(number.as_bytes())?;
+        match settings.expand(alloc, text.as_slice()) {
+            Ok(value) => length = length.saturating_add(value.len()),
+            Err(_) => return Err(NoMemory),
+        }
+    }
+    Ok(length)
+}
+
+// bench/expansion.py asks for more of them by the variable SETTINGS.
+#[test]
+fn many_settings_have_their_values(rt: HostRuntime) -> Result<(), Fail> {
+    let count = match env::var(&rt, "SETTINGS") {
+        Ok(text) => text.as_str().parse::<u64>().unwrap_or(100),
+        Err(_) => 100,
+    };
+    assert_eq!(rt;
+        length_of_many(rt.alloc(), count)?,
+        count.saturating_mul(29)
+    );
     Ok(())
 }

@@ -1,5 +1,9 @@
-//! Tests of the values of settings.
+//! Tests of the parameters and of the values of settings.
 #![tactic(auto)]
 
 #[cfg(test)]
 mod expansion_tests;
+#[cfg(test)]
+mod settings_tests;
+#[cfg(test)]
+mod support;

@@ -1,0 +1,747 @@
+use crate::support::{settings_of, settings_or_line, settings_with};
+use pf_base::{Bytes, List, NoMemory, decimal};
+use pf_catalogue::{Kind, PARAMS, Param, kind_of, param, param_at, param_name, param_place};
+use pf_params::Settings;
+use std::alloc::Global;
+use std::test::Fail;
+
+// The parameters and their defaults, by their kinds.
+const DEFAULTS: &[(&str, &str)] = &[
+    ("mail_name", "Postfix"),
+    ("mydomain", "localdomain"),
+    ("myhostname", "localhost.localdomain"),
+    ("myorigin", "$myhostname"),
+    ("recipient_delimiter", ""),
+    ("remote_header_rewrite_domain", ""),
+    ("smtpd_banner", "$myhostname ESMTP $mail_name"),
+    ("smtpd_null_access_lookup_key", "<>"),
+    (
+        "smtpd_policy_service_default_action",
+        "451 4.3.5 Server configuration problem",
+    ),
+    ("header_size_limit", "102400"),
+    ("line_length_limit", "2048"),
+    ("message_size_limit", "10240000"),
+    ("smtpd_hard_error_limit", "20"),
+    ("smtpd_policy_service_try_limit", "2"),
+    ("smtpd_recipient_limit", "1000"),
+    ("virtual_alias_address_length_limit", "1000"),
+    ("virtual_alias_expansion_limit", "1000"),
+    ("virtual_alias_recursion_limit", "1000"),
+    ("access_map_defer_code", "450"),
+    ("access_map_reject_code", "554"),
+    ("defer_code", "450"),
+    ("invalid_hostname_reject_code", "501"),
+    ("maps_rbl_reject_code", "554"),
+    ("multi_recipient_bounce_reject_code", "550"),
+    ("non_fqdn_reject_code", "504"),
+    ("reject_code", "554"),
+    ("relay_domains_reject_code", "554"),
+    ("unknown_address_reject_code", "450"),
+    ("unknown_client_reject_code", "450"),
+    ("unknown_hostname_reject_code", "450"),
+    ("unknown_local_recipient_reject_code", "550"),
+    ("unknown_relay_recipient_reject_code", "550"),
+    ("unknown_virtual_alias_reject_code", "550"),
+    ("unknown_virtual_mailbox_reject_code", "550"),
+    ("allow_percent_hack", "yes"),
+    ("append_at_myorigin", "yes"),
+    ("append_dot_mydomain", "no"),
+    ("smtpd_helo_required", "no"),
+    ("smtpd_reject_unlisted_recipient", "yes"),
+    ("swap_bangpath", "yes"),
+    ("alias_maps", ""),
+    ("body_checks", ""),
+    ("canonical_maps", ""),
+    ("header_checks", ""),
+    ("recipient_canonical_maps", ""),
+    ("relay_recipient_maps", ""),
+    ("sender_canonical_maps", ""),
+    ("virtual_mailbox_maps", ""),
+    ("local_recipient_maps", "$alias_maps"),
+    ("virtual_alias_maps", "$virtual_maps"),
+    (
+        "mydestination",
+        "$myhostname, localhost.$mydomain, localhost",
+    ),
+    ("relay_domains", ""),
+    ("virtual_alias_domains", "$virtual_alias_maps"),
+    ("virtual_mailbox_domains", "$virtual_mailbox_maps"),
+    ("mynetworks", "127.0.0.0/8 [::1]/128"),
+    ("smtpd_authorized_xclient_hosts", ""),
+    ("smtpd_client_restrictions", ""),
+    ("smtpd_helo_restrictions", ""),
+    ("smtpd_sender_restrictions", ""),
+    ("smtpd_recipient_restrictions", ""),
+    ("smtpd_data_restrictions", ""),
+    ("smtpd_end_of_data_restrictions", ""),
+    (
+        "smtpd_relay_restrictions",
+        "permit_mynetworks, permit_sasl_authenticated, defer_unauth_destination",
+    ),
+    (
+        "canonical_classes",
+        "envelope_sender, envelope_recipient, header_sender, header_recipient",
+    ),
+    (
+        "masquerade_classes",
+        "envelope_sender, header_sender, header_recipient",
+    ),
+    (
+        "recipient_canonical_classes",
+        "envelope_recipient, header_recipient",
+    ),
+    ("sender_canonical_classes", "envelope_sender, header_sender"),
+    ("propagate_unmatched_extensions", "canonical, virtual"),
+    ("inet_interfaces", "all"),
+    ("local_header_rewrite_clients", "permit_inet_interfaces"),
+    ("masquerade_domains", ""),
+    ("masquerade_exceptions", ""),
+    ("smtpd_restriction_classes", ""),
+    ("resolve_dequoted_address", "yes"),
+    ("smtpd_delay_reject", "yes"),
+    ("smtpd_relay_before_recipient_restrictions", "yes"),
+    ("parent_domain_matches_subdomains", ""),
+];
+
+// A main.cf, and `ok` or the line of its refusal.
+const REFUSALS: &[(&str, &str)] = &[
+    ("", "ok"),
+    (
+        "a = $b\nb = $a\nrelay_domains = $a",
+        "postgate: main.cf:3: C4 expansion too deep: relay_domains\n",
+    ),
+    ("a = $b\nb = $a", "ok"),
+    ("nosuch = $", "ok"),
+    (
+        "mail_name = $",
+        "postgate: main.cf:1: C5 bad dollar form: mail_name\n",
+    ),
+    (
+        "x = $(\nmail_name = $x",
+        "postgate: main.cf:2: C5 bad dollar form: mail_name\n",
+    ),
+    (
+        "mail_name = $mail_name",
+        "postgate: main.cf:1: C4 expansion too deep: mail_name\n",
+    ),
+    (
+        "mail_name = $",
+        "postgate: main.cf:1: C5 bad dollar form: mail_name\n",
+    ),
+    (
+        "mail_name = x\nmail_name = $\nmyorigin = /x",
+        "postgate: main.cf:2: C5 bad dollar form: mail_name\n",
+    ),
+    ("mail_name = $\nmail_name = x", "ok"),
+    (
+        "myhostname = $mydomain",
+        "postgate: main.cf:0: C4 expansion too deep: mydestination\n",
+    ),
+    (
+        "mydestination = a\nmyhostname = $mydomain",
+        "postgate: main.cf:0: C4 expansion too deep: mydomain\n",
+    ),
+    (
+        "mydomain = $x\nx = $",
+        "postgate: main.cf:0: C5 bad dollar form: mydestination\n",
+    ),
+    (
+        "mydestination = a\nmydomain = $x\nx = $",
+        "postgate: main.cf:2: C5 bad dollar form: mydomain\n",
+    ),
+    (
+        "myorigin = /etc/mailname",
+        "postgate: main.cf:1: C6 bad value: myorigin\n",
+    ),
+    (
+        "myorigin = $x\nx = /etc",
+        "postgate: main.cf:1: C6 bad value: myorigin\n",
+    ),
+    (
+        "line_length_limit = 99",
+        "postgate: main.cf:1: C6 bad value: line_length_limit\n",
+    ),
+    ("line_length_limit = 100", "ok"),
+    ("line_length_limit = 1000000", "ok"),
+    (
+        "line_length_limit = 1000001",
+        "postgate: main.cf:1: C6 bad value: line_length_limit\n",
+    ),
+    ("line_length_limit = 0000000000000000000000000000100", "ok"),
+    (
+        "line_length_limit = 99999999999999999999999999999999",
+        "postgate: main.cf:1: C6 bad value: line_length_limit\n",
+    ),
+    (
+        "line_length_limit =",
+        "postgate: main.cf:1: C6 bad value: line_length_limit\n",
+    ),
+    (
+        "line_length_limit = 2 048",
+        "postgate: main.cf:1: C6 bad value: line_length_limit\n",
+    ),
+    (
+        "line_length_limit = -1",
+        "postgate: main.cf:1: C6 bad value: line_length_limit\n",
+    ),
+    (
+        "line_length_limit = 1k",
+        "postgate: main.cf:1: C6 bad value: line_length_limit\n",
+    ),
+    ("message_size_limit = 0", "ok"),
+    ("message_size_limit = 2147483647", "ok"),
+    (
+        "message_size_limit = 2147483648",
+        "postgate: main.cf:1: C6 bad value: message_size_limit\n",
+    ),
+    (
+        "smtpd_hard_error_limit = 0",
+        "postgate: main.cf:1: C6 bad value: smtpd_hard_error_limit\n",
+    ),
+    (
+        "smtpd_policy_service_try_limit = 101",
+        "postgate: main.cf:1: C6 bad value: smtpd_policy_service_try_limit\n",
+    ),
+    (
+        "reject_code = 399",
+        "postgate: main.cf:1: C6 bad value: reject_code\n",
+    ),
+    ("reject_code = 400", "ok"),
+    ("reject_code = 599", "ok"),
+    (
+        "reject_code = 600",
+        "postgate: main.cf:1: C6 bad value: reject_code\n",
+    ),
+    ("swap_bangpath = YES", "ok"),
+    ("swap_bangpath = nO", "ok"),
+    (
+        "swap_bangpath = true",
+        "postgate: main.cf:1: C6 bad value: swap_bangpath\n",
+    ),
+    (
+        "swap_bangpath = yes no",
+        "postgate: main.cf:1: C6 bad value: swap_bangpath\n",
+    ),
+    ("alias_maps = texthash:a, nosuch:b c", "ok"),
+    (
+        "alias_maps = texthash:a, /b",
+        "postgate: main.cf:1: C6 bad value: alias_maps\n",
+    ),
+    (
+        "alias_maps = inline:{a=b",
+        "postgate: main.cf:1: C6 bad value: alias_maps\n",
+    ),
+    (
+        "alias_maps = inline:{a=b}}",
+        "postgate: main.cf:1: C6 bad value: alias_maps\n",
+    ),
+    ("relay_domains = any thing, /file !x, .y", "ok"),
+    (
+        "relay_domains = {",
+        "postgate: main.cf:1: C6 bad value: relay_domains\n",
+    ),
+    (
+        "smtpd_client_restrictions = }",
+        "postgate: main.cf:1: C6 bad value: smtpd_client_restrictions\n",
+    ),
+    ("smtpd_client_restrictions = any word", "ok"),
+    ("canonical_classes = envelope_sender header_recipient", "ok"),
+    (
+        "canonical_classes = envelope_sender, all",
+        "postgate: main.cf:1: C6 bad value: canonical_classes\n",
+    ),
+    (
+        "canonical_classes = Envelope_sender",
+        "postgate: main.cf:1: C6 bad value: canonical_classes\n",
+    ),
+    (
+        "propagate_unmatched_extensions = alias forward include generic",
+        "ok",
+    ),
+    (
+        "propagate_unmatched_extensions = canonical, none",
+        "postgate: main.cf:1: C6 bad value: propagate_unmatched_extensions\n",
+    ),
+    ("propagate_unmatched_extensions =", "ok"),
+    (
+        "local_header_rewrite_clients = Permit_MyNetworks, check_address_map cidr:n permit_sasl_authenticated",
+        "ok",
+    ),
+    (
+        "local_header_rewrite_clients = check_address_map",
+        "postgate: main.cf:1: C6 bad value: local_header_rewrite_clients\n",
+    ),
+    (
+        "local_header_rewrite_clients = permit",
+        "postgate: main.cf:1: C6 bad value: local_header_rewrite_clients\n",
+    ),
+    (
+        "masquerade_domains = {a} }",
+        "postgate: main.cf:1: C6 bad value: masquerade_domains\n",
+    ),
+    ("smtpd_delay_reject = yes", "ok"),
+    (
+        "smtpd_delay_reject = Yes",
+        "postgate: main.cf:1: C14 setting outside the profile: smtpd_delay_reject\n",
+    ),
+    (
+        "smtpd_delay_reject = no",
+        "postgate: main.cf:1: C14 setting outside the profile: smtpd_delay_reject\n",
+    ),
+    ("smtpd_delay_reject = $swap_bangpath", "ok"),
+    (
+        "resolve_dequoted_address =",
+        "postgate: main.cf:1: C14 setting outside the profile: resolve_dequoted_address\n",
+    ),
+    (
+        "parent_domain_matches_subdomains =",
+        "postgate: main.cf:1: C14 setting outside the profile: parent_domain_matches_subdomains\n",
+    ),
+    (
+        "parent_domain_matches_subdomains = $",
+        "postgate: main.cf:1: C5 bad dollar form: parent_domain_matches_subdomains\n",
+    ),
+    (
+        "swap_bangpath = x\nalias_maps = /a",
+        "postgate: main.cf:2: C6 bad value: alias_maps\n",
+    ),
+    (
+        "smtpd_restriction_classes = b, a\nb = {",
+        "postgate: main.cf:2: C6 bad value: b\n",
+    ),
+    (
+        "smtpd_restriction_classes = b, a\nb = {\na = $",
+        "postgate: main.cf:3: C5 bad dollar form: a\n",
+    ),
+    (
+        "smtpd_restriction_classes = z\nz = {\nswap_bangpath = x",
+        "postgate: main.cf:3: C6 bad value: swap_bangpath\n",
+    ),
+    (
+        "smtpd_restriction_classes = n\nn = }\nswap_bangpath = x",
+        "postgate: main.cf:2: C6 bad value: n\n",
+    ),
+    (
+        "smtpd_restriction_classes = {a\na = {",
+        "postgate: main.cf:1: C6 bad value: smtpd_restriction_classes\n",
+    ),
+    (
+        "smtpd_restriction_classes = $\na = {",
+        "postgate: main.cf:1: C5 bad dollar form: smtpd_restriction_classes\n",
+    ),
+    ("a = {", "ok"),
+    ("smtpd_restriction_classes = a, a", "ok"),
+    (
+        "smtpd_restriction_classes = permit\npermit = {",
+        "postgate: main.cf:2: C6 bad value: permit\n",
+    ),
+    (
+        "smtpd_restriction_classes = mail_name\nmail_name = {",
+        "postgate: main.cf:2: C6 bad value: mail_name\n",
+    ),
+    (
+        "A = {\nsmtpd_restriction_classes = A\naccess_map_defer_code = 1",
+        "postgate: main.cf:1: C6 bad value: A\n",
+    ),
+];
+
+// A main.cf, a parameter, and its value.
+const VALUES: &[(&str, &str, &str)] = &[
+    (
+        "",
+        "mydestination",
+        "localhost.localdomain, localhost.localdomain, localhost",
+    ),
+    ("", "mydomain", "localdomain"),
+    ("", "smtpd_banner", "localhost.localdomain ESMTP Postfix"),
+    (
+        "myhostname = mx.example.com",
+        "mydestination",
+        "mx.example.com, localhost.example.com, localhost",
+    ),
+    ("myhostname = mx.example.com", "mydomain", "example.com"),
+    ("myhostname = mx", "mydomain", "localdomain"),
+    ("myhostname = mx.", "mydomain", ""),
+    ("myhostname = $x.b.c\nx = a", "mydomain", "b.c"),
+    ("myhostname = mx.$$x", "mydomain", "$x"),
+    (
+        "mydomain = a.b",
+        "mydestination",
+        "localhost.localdomain, localhost.a.b, localhost",
+    ),
+    (
+        "myhostname = mx.example.com",
+        "smtpd_banner",
+        "mx.example.com ESMTP Postfix",
+    ),
+    (
+        "mail_name = $nosuch${mail:none}",
+        "smtpd_banner",
+        "localhost.localdomain ESMTP none",
+    ),
+    (
+        "virtual_maps = inline:{a=b}",
+        "virtual_alias_domains",
+        "inline:{a=b}",
+    ),
+    ("alias_maps = cdb:x", "local_recipient_maps", "cdb:x"),
+    ("mail_name = a\nmail_name = b", "mail_name", "b"),
+    ("mail_name =", "mail_name", ""),
+    (
+        "mail_name = ${smtpd_helo_required?{y}:{n}}",
+        "mail_name",
+        "y",
+    ),
+    ("recipient_delimiter = +-", "recipient_delimiter", "+-"),
+];
+
+// A main.cf, a parameter, and what its value says.
+const SAID: &[(&str, &str, &str)] = &[
+    ("", "reject_code", "554"),
+    ("", "header_size_limit", "102400"),
+    ("header_size_limit = 000200", "header_size_limit", "200"),
+    ("reject_code = 550", "reject_code", "550"),
+    (
+        "x = 42\nsmtpd_recipient_limit = $x",
+        "smtpd_recipient_limit",
+        "42",
+    ),
+    (
+        "message_size_limit = 2147483647",
+        "message_size_limit",
+        "2147483647",
+    ),
+    ("", "swap_bangpath", "yes"),
+    ("", "append_dot_mydomain", "no"),
+    ("append_dot_mydomain = YeS", "append_dot_mydomain", "yes"),
+    ("", "relay_domains", ""),
+    ("", "mynetworks", "<127.0.0.0/8><[::1]/128>"),
+    (
+        "",
+        "smtpd_relay_restrictions",
+        "<permit_mynetworks><permit_sasl_authenticated><defer_unauth_destination>",
+    ),
+    (
+        "relay_domains = a,b c\n  d,,",
+        "relay_domains",
+        "<a><b><c><d>",
+    ),
+    (
+        "alias_maps = inline:{a=b, c=d} x",
+        "alias_maps",
+        "<inline:{a=b, c=d}><x>",
+    ),
+    ("", "inet_interfaces", "<all>"),
+    (
+        "",
+        "local_header_rewrite_clients",
+        "<permit_inet_interfaces>",
+    ),
+    ("", "propagate_unmatched_extensions", "<canonical><virtual>"),
+    ("masquerade_domains = !a b", "masquerade_domains", "<!a><b>"),
+    ("", "mail_name", "text"),
+    ("", "myorigin", "text"),
+    ("", "smtpd_delay_reject", "text"),
+    ("", "nosuch", "none"),
+];
+
+// A main.cf, a parameter, and the line of its last setting.
+const LINES: &[(&str, &str, &str)] = &[
+    ("", "mail_name", "0"),
+    ("mail_name = x", "mail_name", "1"),
+    ("# top\n\nmail_name =\n x\nmyorigin = y", "mail_name", "3"),
+    ("mail_name = x\nmail_name = y", "mail_name", "2"),
+    ("mail_name = x", "myorigin", "0"),
+];
+
+// A main.cf, a class, and the line of its last setting with its items.
+const CLASSES: &[(&str, &str, &str)] = &[
+    (
+        "smtpd_restriction_classes = a, b\na = permit, reject",
+        "a",
+        "2 <permit><reject>",
+    ),
+    ("smtpd_restriction_classes = a, b\na = permit", "b", "none"),
+    ("smtpd_restriction_classes = a\nb = permit", "b", "none"),
+    ("smtpd_restriction_classes = a\na =", "a", "2 "),
+    (
+        "smtpd_restriction_classes = a\na = permit\n# x\na = $y\ny = p {q r}",
+        "a",
+        "4 <p><{q r}>",
+    ),
+    ("smtpd_restriction_classes = a a\na = x", "a", "2 <x>"),
+    ("smtpd_restriction_classes = $c\nc = a\na = x", "a", "3 <x>"),
+    ("smtpd_restriction_classes = A\na = x", "a", "none"),
+    ("smtpd_restriction_classes = mail_name", "mail_name", "none"),
+    (
+        "smtpd_restriction_classes = mail_name\nmail_name = x y",
+        "mail_name",
+        "2 <x><y>",
+    ),
+];
+
+// A main.cf, and its table texts, each behind the line that names it first.
+const SPECS: &[(&str, &str)] = &[
+    ("", ""),
+    ("alias_maps = a:b", "1 a:b|"),
+    ("virtual_maps = v:w", "0 v:w|"),
+    ("virtual_alias_maps = v:w", "0 v:w|"),
+    (
+        "virtual_alias_domains = x\nvirtual_alias_maps = v:w",
+        "2 v:w|",
+    ),
+    (
+        "relay_domains = /file, !c:d, plain, .x, [::1], ![::2]\nmynetworks = 10.0.0.0/8 2001:db8::1 !/nets",
+        "2 2001:db8::1|2 /nets|1 /file|1 c:d|",
+    ),
+    (
+        "smtpd_authorized_xclient_hosts = h:i\nheader_checks = j:k l:m",
+        "2 j:k|2 l:m|1 h:i|",
+    ),
+    (
+        "local_header_rewrite_clients = check_address_map a:b, permit_mynetworks, Check_Address_Map c:d",
+        "1 a:b|1 c:d|",
+    ),
+    (
+        "smtpd_recipient_restrictions = check_recipient_access r:1, reject\nsmtpd_client_restrictions = permit check_client_access c:1 CHECK_HELO_ACCESS h:1",
+        "2 c:1|2 h:1|1 r:1|",
+    ),
+    (
+        "smtpd_relay_restrictions = check_sender_access a:1 check_reverse_client_hostname_access b:1",
+        "1 a:1|1 b:1|",
+    ),
+    (
+        "smtpd_helo_restrictions = check_policy_service check_helo_access reject_rbl_client check_client_access c:1",
+        "",
+    ),
+    ("smtpd_sender_restrictions = check_client_access", ""),
+    (
+        "smtpd_end_of_data_restrictions = check_client_access e:1\nsmtpd_data_restrictions = check_client_access d:1\nsmtpd_sender_restrictions = check_client_access s:1\nsmtpd_helo_restrictions = check_client_access h:1",
+        "4 h:1|3 s:1|2 d:1|1 e:1|",
+    ),
+    (
+        "smtpd_restriction_classes = b, a\na = check_client_access a:1\nb = check_client_access b:1, check_client_access m:1\nalias_maps = m:1\nsmtpd_helo_restrictions = check_client_access h:1",
+        "4 m:1|5 h:1|3 b:1|2 a:1|",
+    ),
+    (
+        "alias_maps = a:b a:b\nbody_checks = c:d a:b",
+        "1 a:b|2 c:d|",
+    ),
+    (
+        "mail_name = a:b\nmyorigin = c:d\nmasquerade_domains = e:f\nrecipient_canonical_classes = envelope_sender",
+        "",
+    ),
+    (
+        "alias_maps = unionmap:{a:b, c:d} $x\nx = e:f",
+        "1 unionmap:{a:b, c:d}|1 e:f|",
+    ),
+];
+
+#[test]
+fn each_parameter_has_its_default(rt: HostRuntime) -> Result<(), Fail> {
+    let alloc = rt.alloc();
+    let settings = settings_of(alloc, b"")?;
+    assert_eq!(rt; DEFAULTS.len() as u64, u64::from(PARAMS));
+    for (name, preset) in DEFAULTS {
+        match param(name.as_bytes()) {
+            Some(p) => {
+                assert_eq!(rt; settings.raw(p).as_slice(), preset.as_bytes(), "{name}");
+                assert_eq!(rt; param_name(p), name.as_bytes());
+                assert_eq!(rt; settings.line(p), 0);
+            }
+            None => assert!(rt; false, "{name}"),
+        }
+    }
+    Ok(())
+}
+
+#[test]
+fn names_are_in_byte_order(rt: HostRuntime) -> Result<(), Fail> {
+    for place in 1..PARAMS {
+        let before = param_name(param_at(place - 1));
+        let name = param_name(param_at(place));
+        assert!(rt; before.cmp(name).is_lt());
+        assert_eq!(rt; param_place(param_at(place)), place);
+    }
+    Ok(())
+}
+
+// `ok`, or the line of a refusal.
+fn outcome(alloc: Global, text: &[u8]) -> Result<Bytes, NoMemory> {
+    match settings_or_line(alloc, text)? {
+        Ok(_) => Bytes::from_slice(alloc, b"ok"),
+        Err(line) => Ok(line),
+    }
+}
+
+#[test]
+fn each_main_cf_is_refused_or_not(rt: HostRuntime) -> Result<(), Fail> {
+    let alloc = rt.alloc();
+    for (text, end) in REFUSALS {
+        let seen = outcome(alloc, text.as_bytes())?;
+        assert_eq!(rt; seen.as_slice(), end.as_bytes(), "{text}");
+    }
+    Ok(())
+}
+
+// Items, each in angle brackets.
+fn add_items(printed: &mut Bytes, items: &List<Bytes>) -> Result<(), NoMemory> {
+    for item in items.as_slice() {
+        printed.extend_all(&[b"<", item.as_slice(), b">"])?;
+    }
+    Ok(())
+}
+
+fn number_text(alloc: Global, number: u64) -> Result<Bytes, NoMemory> {
+    let digits = decimal(alloc, number)?;
+    Bytes::from_slice(alloc, digits.as_bytes())
+}
+
+fn items_text(alloc: Global, items: &List<Bytes>) -> Result<Bytes, NoMemory> {
+    let mut printed = Bytes::new(alloc);
+    add_items(&mut printed, items)?;
+    Ok(printed)
+}
+
+fn yes_text(alloc: Global, yes: bool) -> Result<Bytes, NoMemory> {
+    Bytes::from_slice(
+        alloc,
+        if yes {
+            b"yes".as_slice()
+        } else {
+            b"no".as_slice()
+        },
+    )
+}
+
+// What the value of a parameter says.
+fn said(alloc: Global, settings: &Settings, p: Param) -> Result<Bytes, NoMemory> {
+    match kind_of(p) {
+        Kind::Number { .. } => number_text(alloc, settings.number(p)),
+        Kind::Code => number_text(alloc, settings.number(p)),
+        Kind::Yes => yes_text(alloc, settings.yes(p)),
+        Kind::Maps => items_text(alloc, settings.items(p)),
+        Kind::Domains => items_text(alloc, settings.items(p)),
+        Kind::Networks => items_text(alloc, settings.items(p)),
+        Kind::Hosts => items_text(alloc, settings.items(p)),
+        Kind::Restrictions => items_text(alloc, settings.items(p)),
+        Kind::AddressKinds => items_text(alloc, settings.items(p)),
+        Kind::Extensions => items_text(alloc, settings.items(p)),
+        Kind::Interfaces => items_text(alloc, settings.items(p)),
+        Kind::RewriteClients => items_text(alloc, settings.items(p)),
+        Kind::Names => items_text(alloc, settings.items(p)),
+        Kind::Text => Bytes::from_slice(alloc, b"text"),
+        Kind::Origin => Bytes::from_slice(alloc, b"text"),
+        Kind::FixedYes => Bytes::from_slice(alloc, b"text"),
+        Kind::Unset => Bytes::from_slice(alloc, b"text"),
+    }
+}
+
+fn said_by(alloc: Global, text: &[u8], name: &[u8]) -> Result<Bytes, NoMemory> {
+    let settings = settings_of(alloc, text)?;
+    match param(name) {
+        Some(p) => said(alloc, &settings, p),
+        None => Bytes::from_slice(alloc, b"none"),
+    }
+}
+
+// The value of a parameter.
+fn value(alloc: Global, settings: &Settings, name: &[u8]) -> Result<Bytes, NoMemory> {
+    match param(name) {
+        Some(p) => settings.text(p).copy(alloc),
+        None => Bytes::from_slice(alloc, b"none"),
+    }
+}
+
+// The line of its last setting.
+fn line(alloc: Global, settings: &Settings, name: &[u8]) -> Result<Bytes, NoMemory> {
+    match param(name) {
+        Some(p) => number_text(alloc, settings.line(p)),
+        None => Bytes::from_slice(alloc, b"none"),
+    }
+}
+
+#[test]
+fn parameters_have_their_values(rt: HostRuntime) -> Result<(), Fail> {
+    let alloc = rt.alloc();
+    for (text, name, end) in VALUES {
+        let settings = settings_of(alloc, text.as_bytes())?;
+        let seen = value(alloc, &settings, name.as_bytes())?;
+        assert_eq!(rt; seen.as_slice(), end.as_bytes(), "{text}: {name}");
+    }
+    for (text, name, end) in SAID {
+        let seen = said_by(alloc, text.as_bytes(), name.as_bytes())?;
+        assert_eq!(rt; seen.as_slice(), end.as_bytes(), "{text}: {name}");
+    }
+    for (text, name, end) in LINES {
+        let settings = settings_of(alloc, text.as_bytes())?;
+        let seen = line(alloc, &settings, name.as_bytes())?;
+        assert_eq!(rt; seen.as_slice(), end.as_bytes(), "{text}: {name}");
+    }
+    Ok(())
+}
+
+#[test]
+fn overriding_settings_count(rt: HostRuntime) -> Result<(), Fail> {
+    let alloc = rt.alloc();
+    let settings = settings_with(alloc, b"mail_name = a\nx = $mail_name", b"mail_name", b"b")?;
+    assert_eq!(rt;
+        value(alloc, &settings, b"smtpd_banner")?.as_slice(),
+        b"localhost.localdomain ESMTP b".as_slice()
+    );
+    assert_eq!(rt;
+        line(alloc, &settings, b"mail_name")?.as_slice(),
+        b"0".as_slice()
+    );
+    Ok(())
+}
+
+// The line of a class with its items.
+fn class_text(alloc: Global, text: &[u8], name: &[u8]) -> Result<Bytes, NoMemory> {
+    let settings = settings_of(alloc, text)?;
+    let (Some(line), Some(items)) = (settings.class_line(name), settings.class_items(name)) else {
+        return Bytes::from_slice(alloc, b"none");
+    };
+    let mut printed = number_text(alloc, line)?;
+    printed.push(b' ')?;
+    add_items(&mut printed, items)?;
+    Ok(printed)
+}
+
+#[test]
+fn classes_have_their_items(rt: HostRuntime) -> Result<(), Fail> {
+    let alloc = rt.alloc();
+    for (text, name, end) in CLASSES {
+        let seen = class_text(alloc, text.as_bytes(), name.as_bytes())?;
+        assert_eq!(rt; seen.as_slice(), end.as_bytes(), "{text}: {name}");
+    }
+    Ok(())
+}
+
+// The table texts of a main.cf, each behind its line.
+fn specs_text(alloc: Global, text: &[u8]) -> Result<Bytes, NoMemory> {
+    let settings = settings_of(alloc, text)?;
+    let specs = settings.specs(alloc)?;
+    let mut printed = Bytes::new(alloc);
+    for n in 0..specs.len() {
+        let line = number_text(alloc, specs.line(pf_base::TableId(n)))?;
+        printed.extend_all(&[
+            line.as_slice(),
+            b" ",
+            specs.text(pf_base::TableId(n)).as_slice(),
+            b"|",
+        ])?;
+    }
+    Ok(printed)
+}
+
+#[test]
+fn table_texts_have_their_order(rt: HostRuntime) -> Result<(), Fail> {
+    let alloc = rt.alloc();
+    for (text, end) in SPECS {
+        let seen = specs_text(alloc, text.as_bytes())?;
+        assert_eq!(rt; seen.as_slice(), end.as_bytes(), "{text}");
+    }
+    Ok(())
+}
