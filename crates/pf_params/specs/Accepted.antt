@@ -13,10 +13,10 @@ use Rattle.pf_catalogue.specs.Values.{value_of}
 use Rattle.pf_catalogue.specs.declared.kind.Kind.{Kind}
 use Rattle.pf_catalogue.specs.declared.kind.Kind.TheVariants.{Number, Code, Maps, Domains, Networks, Hosts, Restrictions, AddressKinds, Extensions, Interfaces, RewriteClients, Names}
 use Rattle.pf_catalogue.specs.declared.value.Value.{Value}
+use Rattle.pf_expand.specs.Meanings.{content}
 use Rattle.pf_maincf.specs.Settings.{Conf}
 use Rattle.pf_maincf.specs.declared.setting.Setting.{Setting}
 use Rattle.pf_params.specs.Classes.{class_named, class_names, first_refusal, held_classes}
-use Rattle.pf_params.specs.Meanings.{content}
 use Rattle.pf_params.specs.Parameters.{items_in, line_of, raw_text, readings_of}
 use Rattle.pf_params.specs.Settled.{Settled, settled, value_alone}
 use Rattle.pf_params.specs.declared.classes.Class.{Class}

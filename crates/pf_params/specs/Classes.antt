@@ -9,9 +9,9 @@ use Rattle.pf_base.specs.declared.refused.Cause.TheVariants.{C6}
 use Rattle.pf_base.specs.declared.refused.Refused.{Refused}
 use Rattle.pf_base.specs.declared.words.WordsFault.{WordsFault}
 use Rattle.pf_catalogue.specs.Catalogue.{place_of, row_at}
+use Rattle.pf_expand.specs.Expansion.{Answer}
 use Rattle.pf_maincf.specs.Settings.{last_setting}
 use Rattle.pf_maincf.specs.declared.setting.Setting.{Setting}
-use Rattle.pf_params.specs.Expansion.{Answer}
 use Rattle.pf_params.specs.Parameters.{items_in, reading_of, refusal_of, with_lesser}
 use Rattle.pf_params.specs.Settled.{Settled, cause_of, value_alone}
 use Rattle.pf_params.specs.declared.classes.Class.{Class}

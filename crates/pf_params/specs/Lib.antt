@@ -1,17 +1,6 @@
 pub mod Accepted
 pub mod Classes
-pub mod Expansion
-pub mod Forms
-pub mod FormsMeant
-pub mod Levels
-pub mod Meanings
-pub mod Names
 pub mod Parameters
-pub mod Parting
 pub mod Presets
-pub mod Runs
-pub mod RunsMeant
 pub mod Settled
-pub mod Shapes
 pub mod Sources
-pub mod Tokens

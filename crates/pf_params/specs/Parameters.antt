@@ -13,9 +13,9 @@ use Rattle.pf_catalogue.specs.declared.kind.Kind.{Kind}
 use Rattle.pf_catalogue.specs.declared.kind.Kind.TheVariants.{FixedYes, Unset}
 use Rattle.pf_catalogue.specs.declared.value.Value.{Value}
 use Rattle.pf_catalogue.specs.declared.value.Value.TheVariants.{Text, Number, Yes, Items}
+use Rattle.pf_expand.specs.Expansion.{Answer}
 use Rattle.pf_maincf.specs.Settings.{last_setting}
 use Rattle.pf_maincf.specs.declared.setting.Setting.{Setting}
-use Rattle.pf_params.specs.Expansion.{Answer}
 use Rattle.pf_params.specs.Settled.{Settled, cause_of, value_alone}
 use Rattle.pf_params.specs.declared.readings.Reading.{Reading}
 

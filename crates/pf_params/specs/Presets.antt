@@ -5,8 +5,8 @@ use Rattle.std.specs.Option.{option_map_or}
 use Rattle.std.specs.Str.{bytes_eq}
 use Rattle.pf_catalogue.specs.Catalogue.{Preset, Row, catalogue}
 use Rattle.pf_catalogue.specs.Catalogue.{Preset as preset}
-use Rattle.pf_params.specs.Names.{Source}
-use Rattle.pf_params.specs.Names.{Source as source}
+use Rattle.pf_expand.specs.Names.{Source}
+use Rattle.pf_expand.specs.Names.{Source as source}
 
 -- what a default stands for
 abbrev pub preset_source : Preset → Source

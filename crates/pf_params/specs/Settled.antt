@@ -4,14 +4,14 @@ use Rattle.pf_base.specs.declared.refused.Cause.{Cause}
 use Rattle.pf_base.specs.declared.refused.Cause.TheVariants.{C4, C5, C16}
 use Rattle.pf_base.specs.declared.refused.ConfFault.{ConfFault}
 use Rattle.pf_base.specs.declared.refused.ConfFault.TheVariants.{Refused}
+use Rattle.pf_expand.specs.Expansion.{Answer}
+use Rattle.pf_expand.specs.Names.{Source, depth_limit, expanded, name_value}
+use Rattle.pf_expand.specs.declared.flaw.Flaw.{Flaw}
+use Rattle.pf_expand.specs.declared.flaw.Flaw.TheVariants.{BadForm, TooDeep, TooLong}
 use Rattle.pf_maincf.specs.Settings.{Conf}
 use Rattle.pf_maincf.specs.declared.setting.Setting.{Setting}
-use Rattle.pf_params.specs.Expansion.{Answer}
-use Rattle.pf_params.specs.Names.{Source, depth_limit, expanded, name_value}
 use Rattle.pf_params.specs.Presets.{preset_of}
 use Rattle.pf_params.specs.Sources.{source_of}
-use Rattle.pf_params.specs.declared.flaw.Flaw.{Flaw}
-use Rattle.pf_params.specs.declared.flaw.Flaw.TheVariants.{BadForm, TooDeep, TooLong}
 
 -- the name of the file, and all settings in order
 pub record Settled : Type 0 where

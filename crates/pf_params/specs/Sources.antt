@@ -1,9 +1,9 @@
 -- What names stand for: the text of the last setting of a name, and else what stands there by default (postconf(5), main.cf format).
 use Rattle.std.specs.Prelude.{ℕ, List, Option, None, Some}
+use Rattle.pf_expand.specs.Names.{Source}
+use Rattle.pf_expand.specs.Names.{Source as source}
 use Rattle.pf_maincf.specs.Settings.{last_setting}
 use Rattle.pf_maincf.specs.declared.setting.Setting.{Setting}
-use Rattle.pf_params.specs.Names.{Source}
-use Rattle.pf_params.specs.Names.{Source as source}
 
 -- the text of a setting
 abbrev pub set_or : Source → Option Setting → Source

@@ -1,17 +1,13 @@
 //! The settings of a main.cf and those that count after them, with what is known of the values of their names.
 ghost use Rattle.std.specs.Prelude.{◌≡◌, ◌++◌, map, IfOk, OnOk};
 ghost use Rattle.std.specs.Option.{option_copied};
+ghost use Rattle.pf_expand.specs.Names.{expanded};
 ghost use Rattle.pf_maincf.specs.Settings.{last_setting};
-ghost use Rattle.pf_params.specs.Names.{expanded};
 ghost use Rattle.pf_params.specs.Settled as spec;
 
-use crate::flaw::Flaw;
-use crate::lengths::Shapes;
-use crate::names::Names;
-use crate::rounds::shapes_of;
 use crate::table::{set_names, set_presets};
-use crate::values::{named_value, value_of};
 use pf_base::{Bytes, List, NoMemory};
+use pf_expand::{Flaw, Names, Values};
 use pf_maincf::{MainCf, Setting};
 use std::alloc::Global;
 use std::marker::Model;
@@ -21,22 +17,18 @@ use std::marker::Model;
 pub(crate) struct Known {
     file: Bytes,
     settings: List<Setting>,
-    names: Names,
-    shapes: Shapes,
+    values: Values,
 }
 
 impl Model for Known {
-    ghost use Rattle.std.specs.Prelude.{◌≡◌};
-    ghost use Rattle.pf_params.specs.Levels.{AreShapes};
-    ghost use Rattle.pf_params.specs.Meanings.{AreNames};
-    ghost use Rattle.pf_params.specs.Names.{depth_limit};
+    ghost use Rattle.pf_expand.specs.Meanings.{AreNames};
     ghost use Rattle.pf_params.specs.Settled.{Settled, settled_source};
 
     ghost Value = { Settled };
 
     ghost view = { λ s. record { file = s.file; settings = s.settings } };
 
-    ghost invariant = { λ s. AreNames s.names (settled_source (record { file = s.file; settings = s.settings })) × AreShapes s.names s.shapes × (s.shapes.levels ≡ depth_limit) };
+    ghost invariant = { λ s. AreNames s.values (settled_source (record { file = s.file; settings = s.settings })) };
 }
 
 // Adds settings behind others, at line 0 where they stand in no file.
@@ -69,12 +61,11 @@ impl Known {
         let mut names = Names::new(alloc);
         set_presets(alloc, &mut names)?;
         set_names(alloc, &mut names, settings.as_slice())?;
-        let shapes = shapes_of(alloc, &names)?;
+        let values = Values::new(alloc, names)?;
         Ok(Known {
             file: main.file().copy(alloc)?,
             settings,
-            names,
-            shapes,
+            values,
         })
     }
 
@@ -104,7 +95,7 @@ impl Known {
     ) -> Result<Result<Bytes, Flaw>, NoMemory>
         ensures { IfOk result (λ value. value ≡ expanded (spec.settled_source self.now) text.now) }
     {
-        value_of(alloc, &self.names, &self.shapes, text)
+        self.values.text(alloc, text)
     }
 
     /// The value of a name as it stands alone, or why there is none.
@@ -115,7 +106,6 @@ impl Known {
     ) -> Result<Result<Bytes, Flaw>, NoMemory>
         ensures { IfOk result (λ value. value ≡ spec.value_alone self.now name.now) }
     {
-        let name = Bytes::from_slice(alloc, name)?;
-        named_value(alloc, &self.names, &self.shapes, &name)
+        self.values.name(alloc, name)
     }
 }

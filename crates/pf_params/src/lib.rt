@@ -2,22 +2,11 @@
 #![tactic(auto)]
 
 mod classes;
-mod flaw;
-mod form;
 mod known;
-mod lengths;
-mod names;
 mod openings;
-mod parse;
 mod readings;
 mod refusals;
-mod rounds;
-mod run;
 mod settings;
-mod shape;
 mod table;
-mod token;
-mod values;
-mod write;
 
 pub use settings::Settings;

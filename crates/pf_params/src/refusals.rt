@@ -3,10 +3,10 @@ ghost use Rattle.std.specs.Prelude.{◌≡◌, ◌≢◌, Some, IfOk};
 ghost use Rattle.pf_params.specs.Parameters as spec;
 ghost use Rattle.pf_params.specs.Settled as settled;
 
-use crate::flaw::Flaw;
 use crate::known::Known;
 use pf_base::{Bytes, Cause, ConfFault, NoMemory, Refused};
 use pf_catalogue::Kind;
+use pf_expand::Flaw;
 use std::alloc::Global;
 
 /// The cause of a refusal of a value that is not there.

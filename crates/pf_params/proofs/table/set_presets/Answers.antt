@@ -1,14 +1,12 @@
 use Rattle.std.proofs.Common.{◌≡◌, ◌+◌, ◌-◌, ◌<◌, ℕ, drop, subst, arith}
 use Rattle.pf_catalogue.specs.Catalogue.{catalogue}
-use Rattle.pf_params.proofs.CatalogueLaws.{ended}
-use Rattle.pf_params.proofs.PresetLaws.{preset_more}
-use Rattle.pf_params.proofs.SettledLaws.{none_named}
-use Rattle.pf_params.specs.Meanings.{AreNames}
+use Rattle.pf_expand.specs.Meanings.{AreNames}
+use Rattle.pf_params.proofs.PresetLaws.{no_presets, preset_more}
 use Rattle.pf_params.specs.Presets.{preset_among}
 use Rattle.pf_params.proofs.table.set_presets.Goals as goal
 
 pub loop-left-init : goal.loop-left-init
-loop-left-init c = (omega arith, λ empty. none_named c.args.names.now empty _ ended)
+loop-left-init c = (omega arith, no_presets c.args.names.now)
 
 one_less : (left : ℕ) → 0 < left → left ≡ left - 1 + 1
 one_less left h = omega (arith, h)
@@ -16,8 +14,9 @@ one_less left h = omega (arith, h)
 pub loop-left-preserved : goal.loop-left-preserved
 loop-left-preserved c = (
   omega (arith, c.loop-left.invariant.0),
-  λ empty. preset_more c.loop-left.names c.set_preset.new.names (c.loop-left.left - 1) (omega (arith, c.loop-left.invariant.0, c.loop-left-test.true))
-      (let family : ℕ → Type 0 = λ n. AreNames c.loop-left.names (preset_among (drop n catalogue)) in
-      subst family (one_less c.loop-left.left c.loop-left-test.true) (c.loop-left.invariant.1 empty))
-      (rw c.param_at.ensures at c.in_ok-set_preset.ensures),
+  λ empty.
+      let set = rw c.param_at.ensures at c.in_ok-set_preset.ensures in
+      let family : ℕ → Type 0 = λ n. AreNames c.loop-left.names (preset_among (drop n catalogue)) in
+      preset_more c.set_preset.new.names (c.loop-left.left - 1) (omega (arith, c.loop-left.invariant.0, c.loop-left-test.true))
+      (set (preset_among (drop (c.loop-left.left - 1 + 1) catalogue)) (subst family (one_less c.loop-left.left c.loop-left-test.true) (c.loop-left.invariant.1 empty))),
 )

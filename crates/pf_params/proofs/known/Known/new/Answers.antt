@@ -2,9 +2,6 @@ use Rattle.pf_params.proofs.SettledLaws.{named_from_presets}
 use Rattle.pf_params.proofs.known.Known.new.Goals as goal
 
 pub invariant_of-result : goal.invariant_of-result
-invariant_of-result c = (
-  named_from_presets c.new-names.result c.set_presets.new.names c.set_names.new.names c.as_slice-3.result.now c.add_settings-2.new.all c.new-names.ensures c.as_slice-3.ensures
-      c.in_ok-set_presets.ensures c.in_ok-set_names.ensures,
-  c.in_ok-shapes.ensures.shapes,
-  c.in_ok-shapes.ensures.levels,
-)
+invariant_of-result c =
+    named_from_presets c.new-names.result c.set_presets.new.names c.set_names.new.names c.in_ok-values.values c.as_slice-3.result.now c.add_settings-2.new.all
+    c.in_ok-values.ensures c.as_slice-3.ensures c.new-names.ensures c.in_ok-set_presets.ensures c.in_ok-set_names.ensures

@@ -1,0 +1,14 @@
+pub mod FormLemmas
+pub mod LengthLaws
+pub mod LevelLaws
+pub mod NameLaws
+pub mod PartLaws
+pub mod PartingLemmas
+pub mod RoundLaws
+pub mod Rows
+pub mod RunLaws
+pub mod ShapeLaws
+pub mod SourceLaws
+pub mod StableLaws
+pub mod ValueLaws
+pub mod WriteLaws

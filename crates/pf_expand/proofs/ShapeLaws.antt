@@ -1,0 +1,92 @@
+-- The shape of pieces in turn is the shape of their value.
+use Rattle.std.proofs.Common.{◌≡◌, ℕ, ◌+◌, ◌<◌, true, false, nat_lt, List, [], ◌∷◌, Ok, Err, length, refl, sym, ap, ◌∙◌, arith, if◌then◌else◌}
+use Rattle.std.proofs.lemmas.Bool.{ltb-true, lt-ltb, ne_eqb}
+use Rattle.std.proofs.lemmas.List.{length-append}
+use Rattle.pf_expand.specs.Expansion.{Answer, first_flaw, joined, length_limit, within_limit}
+use Rattle.pf_expand.specs.Runs as runs
+use Rattle.pf_expand.specs.Runs.{added, behind, choice_name, run}
+use Rattle.pf_expand.specs.Shapes as shapes
+use Rattle.pf_expand.specs.Shapes.{long, shape_of}
+use Rattle.pf_expand.specs.declared.flaw.Flaw.{Flaw}
+use Rattle.pf_expand.specs.declared.flaw.Flaw.TheVariants.{BadForm, TooDeep, TooLong}
+use Rattle.pf_expand.specs.declared.run.Mode.{Mode}
+use Rattle.pf_expand.specs.declared.run.Mode.TheVariants.{Counts, ToOtherwise, ToEnd}
+use Rattle.pf_expand.specs.declared.shape.Shape.{Shape}
+use Rattle.pf_expand.specs.declared.shape.Shape.TheVariants.{Long, Flawed}
+use Rattle.pf_expand.specs.declared.token.Token.{Token}
+use Rattle.pf_expand.specs.declared.token.Token.TheVariants.{Literal, Name, Choose, Otherwise, End}
+
+-- names have these shapes
+abbrev pub Agrees : (List ℕ → Answer) → (List ℕ → Shape) → Type 0
+Agrees values named = (name : List ℕ) → named name ≡ shape_of (values name)
+
+-- and no value is above the limit
+abbrev pub Limited : (List ℕ → Answer) → Type 0
+Limited values = (name : List ℕ) → within_limit (values name) ≡ values name
+
+long_sum : (a b : ℕ) → long (a + b) ≡ shapes.joined (long a) (long b)
+long_sum a b =
+    (elim (nat_lt length_limit a) as (λ s. nat_lt length_limit a ≡ s → long (a + b) ≡ shapes.joined (if s then Flawed TooLong else Long a) (long b)) [
+      | true ↦ λ p. above (omega (arith, ltb-true length_limit a p)) ∙ elim (nat_lt length_limit b) as (λ t. Flawed TooLong ≡ shapes.joined (Flawed TooLong) (if t then Flawed TooLong else Long b)) [ true ↦ refl | false ↦ refl ]
+      | false ↦ λ p. (elim (nat_lt length_limit b) as (λ t. nat_lt length_limit b ≡ t → long (a + b) ≡ shapes.joined (Long a) (if t then Flawed TooLong else Long b)) [
+        | true ↦ λ q. above (omega (arith, ltb-true length_limit b q))
+        | false ↦ λ q. refl
+      ]) refl
+    ]) refl
+  where
+    above : length_limit < a + b → long (a + b) ≡ Flawed TooLong
+    above h = ap (λ t. if t then Flawed TooLong else Long (a + b)) (lt-ltb length_limit (a + b) h)
+
+pub flaw_before : (flaw : Flaw) (n : ℕ) → Flawed flaw ≡ shapes.joined (Flawed flaw) (long n)
+flaw_before flaw n = elim (nat_lt length_limit n) as (λ t. Flawed flaw ≡ shapes.joined (Flawed flaw) (if t then Flawed TooLong else Long n)) [ true ↦ ap Flawed (same flaw) | false ↦ refl ] where
+  same : (flaw : Flaw) → flaw ≡ first_flaw flaw TooLong
+  same BadForm = refl
+  same TooDeep = refl
+  same TooLong = refl
+
+pub flaw_behind : (flaw : Flaw) (n : ℕ) → Flawed flaw ≡ shapes.joined (long n) (Flawed flaw)
+flaw_behind flaw n = elim (nat_lt length_limit n) as (λ t. Flawed flaw ≡ shapes.joined (if t then Flawed TooLong else Long n) (Flawed flaw)) [ true ↦ refl | false ↦ refl ]
+
+pub joined_shape : (x y : Answer) → shape_of (joined x y) ≡ shapes.joined (shape_of x) (shape_of y)
+joined_shape (Ok a) (Ok b) = ap long (length-append a b) ∙ long_sum (length a) (length b)
+joined_shape (Ok a) (Err flaw) = flaw_behind flaw (length a)
+joined_shape (Err flaw) (Ok b) = flaw_before flaw (length b)
+joined_shape (Err flaw) (Err other) = refl
+
+-- a value that is not above the limit has its length as its shape
+pub limited_shape : (bytes : List ℕ) → within_limit (Ok bytes) ≡ Ok bytes → shape_of (Ok bytes) ≡ Long (length bytes)
+limited_shape bytes h =
+    (elim (nat_lt length_limit (length bytes)) as (λ t. (if t then Err TooLong else Ok bytes) ≡ Ok bytes → (if t then Flawed TooLong else Long (length bytes)) ≡ Long (length bytes)) [
+      | true ↦ λ e. cc
+      | false ↦ λ e. refl
+    ]) h
+
+flaw_shape : (x : Answer) → within_limit x ≡ x → shape_of (runs.flaw_alone x) ≡ shapes.flaw_alone (shape_of x)
+flaw_shape (Ok bytes) h = rw (limited_shape bytes h) refl
+flaw_shape (Err flaw) h = refl
+
+pub choice_shape : (x : Answer) → within_limit x ≡ x → shapes.behind_choice (shape_of x) ≡ runs.behind_choice x
+choice_shape (Ok []) h = refl
+choice_shape (Ok (b ∷ bytes)) h = rw (limited_shape (b ∷ bytes) h) (ap (λ t. if t then ToOtherwise 0 else Counts) (ne_eqb (length (b ∷ bytes)) 0 (λ e. omega (arith, e))))
+choice_shape (Err flaw) h = refl
+
+added_shape : (values : List ℕ → Answer) (named : List ℕ → Shape) → Agrees values named → Limited values → (mode : Mode) (token : Token)
+    → shapes.added named mode token ≡ shape_of (added values mode token)
+added_shape values named agrees limited Counts (Literal bytes) = refl
+added_shape values named agrees limited Counts (Name name) = agrees name
+added_shape values named agrees limited Counts (Choose name) = ap shapes.flaw_alone (agrees name) ∙ sym (flaw_shape (values name) (limited name))
+added_shape values named agrees limited Counts Otherwise = refl
+added_shape values named agrees limited Counts End = refl
+added_shape values named agrees limited (ToOtherwise n) token = refl
+added_shape values named agrees limited (ToEnd n) token = refl
+
+-- the shape of pieces is that of their value
+pub run_shape : (values : List ℕ → Answer) (named : List ℕ → Shape) → Agrees values named → Limited values → (mode : Mode) (tokens : List Token)
+    → shapes.run named mode tokens ≡ shape_of (run values mode tokens)
+run_shape values named agrees limited mode [] = refl
+run_shape values named agrees limited mode (token ∷ tokens) =
+    ap (λ x. shapes.joined x (shapes.run named (behind (shapes.behind_choice (named (choice_name token))) mode token) tokens)) (added_shape values named agrees limited mode token)
+    ∙ ap (λ choice. shapes.joined (shape_of (added values mode token)) (shapes.run named (behind choice mode token) tokens))
+    (ap shapes.behind_choice (agrees (choice_name token)) ∙ choice_shape (values (choice_name token)) (limited (choice_name token)))
+    ∙ ap (shapes.joined (shape_of (added values mode token))) (run_shape values named agrees limited (behind (runs.behind_choice (values (choice_name token))) mode token) tokens)
+    ∙ sym (joined_shape (added values mode token) (run values (behind (runs.behind_choice (values (choice_name token))) mode token) tokens))

@@ -1,0 +1,171 @@
+//! Values are written.
+ghost use Rattle.std.specs.Prelude.{◌≡◌, ◌==◌, ◌≤◌, ◌+◌, ◌++◌, true, is_ok, OnOk};
+ghost use Rattle.std.specs.List.{position};
+ghost use Rattle.pf_expand.specs.Levels.{AreShapes};
+ghost use Rattle.pf_expand.specs.Meanings.{content, level_value};
+ghost use Rattle.pf_expand.specs.Names as expansion;
+ghost use Rattle.pf_expand.specs.Runs as runs;
+ghost use Rattle.pf_expand.specs.declared.run.Mode.TheVariants.{Counts};
+
+use crate::lengths::{Shapes, choice_behind, shape_named};
+use crate::names::{Meaning, Names};
+use crate::run::{Mode, behind};
+use crate::shape::Shape;
+use crate::token::Token;
+use pf_base::{Bytes, NoMemory};
+use std::alloc::Global;
+
+fn dot_place(host: &[u8]) -> Option<usize>
+    ensures { result ≡ position (λ b. b == 46) host.now }
+{
+    host.iter().position(|b| *b == b'.')
+}
+
+/// A host name past its first dot, `localdomain` where it has none.
+pub(crate) fn domain_in(host: &[u8]) -> &[u8]
+    ensures { result.now ≡ expansion.domain_in host.now }
+{
+    match dot_place(host) {
+        None => b"localdomain",
+        Some(place) => &host[place + 1..],
+    }
+}
+
+fn counts(mode: Mode) -> bool
+    ensures { result ≡ runs.counts mode }
+{
+    match mode {
+        Mode::Counts => true,
+        Mode::ToOtherwise(_) => false,
+        Mode::ToEnd(_) => false,
+    }
+}
+
+fn is_nothing(shape: Shape) -> bool
+    ensures { result ≡ true → shape ≡ Shape.Long 0 }
+{
+    match shape {
+        Shape::Long(length) => length == 0,
+        Shape::Flawed(_) => false,
+    }
+}
+
+/// Adds the value of pieces, which is there with so many levels left.
+#[cycle(write_name)]
+pub(crate) fn write_pieces(
+    alloc: Global,
+    names: &Names,
+    shapes: &Shapes,
+    tokens: &[Token],
+    levels: u64,
+    out: &mut Bytes,
+) -> Result<(), NoMemory>
+    requires shapes { AreShapes names.now shapes.now }
+    requires levels { levels ≤ shapes.now.levels }
+    requires there { is_ok (runs.run (level_value names.now levels) Counts tokens.now) ≡ true }
+    ensures { OnOk result (out.new ≡ out.old ++ content (runs.run (level_value names.now levels) Counts tokens.now)) }
+{
+    let mut mode = Mode::Counts;
+    for token in tokens {
+        write_piece(alloc, names, shapes, mode, token, levels, out)?;
+        mode = behind(choice_behind(names, shapes, token), mode, token);
+    }
+    Ok(())
+}
+
+// Adds what a piece adds.
+#[cycle(write_name)]
+fn write_piece(
+    alloc: Global,
+    names: &Names,
+    shapes: &Shapes,
+    mode: Mode,
+    token: &Token,
+    levels: u64,
+    out: &mut Bytes,
+) -> Result<(), NoMemory>
+    requires shapes { AreShapes names.now shapes.now }
+    requires levels { levels ≤ shapes.now.levels }
+    requires there { is_ok (runs.added (level_value names.now levels) mode token.now) ≡ true }
+    ensures { OnOk result (out.new ≡ out.old ++ content (runs.added (level_value names.now levels) mode token.now)) }
+{
+    if !counts(mode) {
+        return Ok(());
+    }
+    match token {
+        Token::Literal(bytes) => out.extend(bytes.as_slice()),
+        Token::Name(name) => write_name(alloc, names, shapes, name, levels, out),
+        Token::Choose(_) => Ok(()),
+        Token::Otherwise => Ok(()),
+        Token::End => Ok(()),
+    }
+}
+
+/// Adds the value of a name, which is there with so many levels left.
+#[cycle(write_name)]
+pub(crate) fn write_name(
+    alloc: Global,
+    names: &Names,
+    shapes: &Shapes,
+    name: &Bytes,
+    levels: u64,
+    out: &mut Bytes,
+) -> Result<(), NoMemory>
+    requires shapes { AreShapes names.now shapes.now }
+    requires levels { levels ≤ shapes.now.levels }
+    requires there { is_ok (level_value names.now levels name.now) ≡ true }
+    ensures { OnOk result (out.new ≡ out.old ++ content (level_value names.now levels name.now)) }
+{
+    if levels == 0 {
+        return Ok(());
+    }
+    if is_nothing(shape_named(names, shapes, name)) {
+        return Ok(());
+    }
+    write_meaning(alloc, names, shapes, name, levels - 1, out)
+}
+
+/// Adds the value of a name, which is there with one level more.
+#[cycle(write_name)]
+pub(crate) fn write_meaning(
+    alloc: Global,
+    names: &Names,
+    shapes: &Shapes,
+    name: &Bytes,
+    levels: u64,
+    out: &mut Bytes,
+) -> Result<(), NoMemory>
+    requires shapes { AreShapes names.now shapes.now }
+    requires levels { levels ≤ shapes.now.levels }
+    requires there { is_ok (level_value names.now (levels + 1) name.now) ≡ true }
+    ensures { OnOk result (out.new ≡ out.old ++ content (level_value names.now (levels + 1) name.now)) }
+{
+    match names.get(name) {
+        None => Ok(()),
+        Some(Meaning::BadForm) => Ok(()),
+        Some(Meaning::Text(tokens)) => {
+            write_pieces(alloc, names, shapes, tokens.as_slice(), levels, out)
+        }
+        Some(Meaning::DomainOf(host)) => write_domain(alloc, names, shapes, host, levels, out),
+    }
+}
+
+// Adds the domain in the value of a name.
+#[cycle(write_name)]
+fn write_domain(
+    alloc: Global,
+    names: &Names,
+    shapes: &Shapes,
+    host: &Bytes,
+    levels: u64,
+    out: &mut Bytes,
+) -> Result<(), NoMemory>
+    requires shapes { AreShapes names.now shapes.now }
+    requires levels { levels ≤ shapes.now.levels }
+    requires there { is_ok (level_value names.now levels host.now) ≡ true }
+    ensures { OnOk result (out.new ≡ out.old ++ content (expansion.domain_of (level_value names.now levels host.now))) }
+{
+    let mut value = Bytes::new(alloc);
+    write_name(alloc, names, shapes, host, levels, &mut value)?;
+    out.extend(domain_in(value.as_slice()))
+}
