@@ -209,7 +209,7 @@ two_sets = record { each = refl; once = refl }
 line_of_a_set : set_line (set_to (codes "a") (codes "1 2")) ≡ codes "a = 1 2\n"
 line_of_a_set = refl
 
-line_of_an_empty_value : set_line (set_to (codes "a") []) ≡ codes "a =\n"
+line_of_an_empty_value : set_line (set_to (codes "a") []) ≡ codes "a = \n"
 line_of_an_empty_value = refl
 
 -- where a set stands
@@ -260,13 +260,26 @@ no_last_line_feed : edited (codes "main.cf") (codes "a = 1\nb = 2") (set_to (cod
 unfolding edited conf_of
 no_last_line_feed = refl
 
-last_line_gives_way : edited (codes "main.cf") (codes "a = 1\nb = 2") (set_to (codes "b") [] ∷ []) ≡ Ok (codes "a = 1\nb =\n")
+last_line_gives_way : edited (codes "main.cf") (codes "a = 1\nb = 2") (set_to (codes "b") [] ∷ []) ≡ Ok (codes "a = 1\nb = \n")
 unfolding edited conf_of
 last_line_gives_way = refl
 
+empty_value_with_a_comment_inside : edited (codes "main.cf") (codes "# top\na = 1,\n  # c\n  2\nb = 3\n") (set_to (codes "a") [] ∷ [])
+    ≡ Ok (codes "# top\na = \n  # c\nb = 3\n")
+unfolding edited conf_of
+empty_value_with_a_comment_inside = refl
+
+empty_value_is_read_back : conf_of (codes "main.cf") (codes "# top\na = \n  # c\nb = 3\n")
+    ≡ Ok (record {
+      file = codes "main.cf";
+      settings = record { line = 2; name = codes "a"; value = [] } ∷ record { line = 4; name = codes "b"; value = codes "3" } ∷ [];
+    })
+unfolding conf_of
+empty_value_is_read_back = refl
+
 new_names_behind_a_line_feed : edited (codes "main.cf") (codes "a = 1\n# c")
     (set_to (codes "c") (codes "3") ∷ set_to (codes "a") (codes "2") ∷ set_to (codes "b") [] ∷ [])
-    ≡ Ok (codes "a = 2\n# c\nc = 3\nb =\n")
+    ≡ Ok (codes "a = 2\n# c\nc = 3\nb = \n")
 unfolding edited conf_of
 new_names_behind_a_line_feed = refl
 

@@ -11,14 +11,14 @@ use Rattle.std.proofs.lemmas.Slice.Eq.{bytes_eq-Decides}
 use Rattle.pf_base.specs.Lines.{without_return}
 use Rattle.pf_base.specs.Logical.{is_ignored, starts_with_space}
 use Rattle.pf_base.specs.Space.{is_space, trimmed}
-use Rattle.pf_maincf.specs.Edit.{behind_sign, is_set}
+use Rattle.pf_maincf.specs.Edit.{is_set}
 use Rattle.pf_maincf.specs.Settings.{is_name, is_name_byte, setting_of}
 use Rattle.pf_maincf.specs.declared.setting.Setting.{Setting}
 use Rattle.pf_maincf.proofs.Ends.{has_feed, or_left, or_right}
 
 -- the line of a set without its line feed
 abbrev pub set_text : Setting → List ℕ
-set_text set = set.name ++ codes " =" ++ behind_sign set.value
+set_text set = set.name ++ codes " = " ++ set.value
 
 pub and_left : (a b : Bool) → (a && b) ≡ true → a ≡ true
 and_left true b h = refl
@@ -72,17 +72,13 @@ is_set_is set h =
 name_bytes : (set : Setting) → IsSet set → list_all is_name_byte set.name ≡ true
 name_bytes set s = and_right _ (list_all is_name_byte set.name) s.name
 
-feed_behind_sign : (value : List ℕ) → has_feed value ≡ false → has_feed (behind_sign value) ≡ false
-feed_behind_sign [] h = refl
-feed_behind_sign (b ∷ bytes) h = h
-
 pub text_feed : (set : Setting) → IsSet set → has_feed (set_text set) ≡ false
 text_feed set s =
     rw (
-      list_any-append (λ b. eqb b 10) (set.name ++ codes " =") (behind_sign set.value),
-      list_any-append (λ b. eqb b 10) set.name (codes " ="),
+      list_any-append (λ b. eqb b 10) (set.name ++ codes " = ") set.value,
+      list_any-append (λ b. eqb b 10) set.name (codes " = "),
       none_passes is_name_byte (λ b. eqb b 10) no_feed set.name (name_bytes set s),
-    ) (feed_behind_sign set.value s.feed)
+    ) s.feed
 
 -- the first byte of a name is neither space nor a number sign
 text_counts : (name more : List ℕ) → is_name name ≡ true → eqb (get_or name 0 0) 35 ≡ false
@@ -94,10 +90,10 @@ text_counts (b ∷ name) more h k =
 
 pub text_is_not_ignored : (set : Setting) → IsSet set → is_ignored (set_text set) ≡ false
 text_is_not_ignored set s = rw
-    (append_assoc set.name) (text_counts set.name (codes " =" ++ behind_sign set.value) s.name s.comment).0
+    (append_assoc set.name) (text_counts set.name (codes " = " ++ set.value) s.name s.comment).0
 
 pub text_begins : (set : Setting) → IsSet set → starts_with_space (set_text set) ≡ false
-text_begins set s = rw (append_assoc set.name) (text_counts set.name (codes " =" ++ behind_sign set.value) s.name s.comment).1
+text_begins set s = rw (append_assoc set.name) (text_counts set.name (codes " = " ++ set.value) s.name s.comment).1
 
 -- the last byte is no carriage return
 last_behind : (xs : List ℕ) (y : ℕ) (ys : List ℕ) → get_or (xs ++ y ∷ ys) (length (xs ++ y ∷ ys) - 1) 0 ≡ get_or (y ∷ ys) (length (y ∷ ys) - 1) 0
@@ -112,10 +108,9 @@ no_return : (line : List ℕ) → eqb (get_or line (length line - 1) 0) 13 ≡ f
 no_return line h = rw h
 
 value_last : (front value : List ℕ) → eqb (get_or value (length value - 1) 0) 13 ≡ false
-    → eqb (get_or ((front ++ codes " =") ++ behind_sign value) (length ((front ++ codes " =") ++ behind_sign value) - 1) 0) 13 ≡ false
-value_last front [] h = rw (append-nil (front ++ codes " ="), last_behind front 32 (61 ∷ []))
-value_last front (b ∷ bytes) h =
-    ap (λ x. eqb x 13) (last_behind (front ++ codes " =") 32 (b ∷ bytes) ∙ last_behind (32 ∷ []) b bytes) ∙ h
+    → eqb (get_or ((front ++ codes " = ") ++ value) (length ((front ++ codes " = ") ++ value) - 1) 0) 13 ≡ false
+value_last front [] h = rw (append-nil (front ++ codes " = "), last_behind front 32 (61 ∷ 32 ∷ []))
+value_last front (b ∷ bytes) h = ap (λ x. eqb x 13) (last_behind (front ++ codes " = ") b bytes) ∙ h
 
 pub text_whole : (set : Setting) → IsSet set → without_return (set_text set) ≡ set_text set
 text_whole set s = no_return (set_text set) (value_last set.name set.value s.returns)
@@ -164,7 +159,7 @@ name_trimmed (b ∷ name) h =
 drop_first : (n x : ℕ) (xs : List ℕ) → drop (1 + n) (x ∷ xs) ≡ drop n xs
 drop_first n x xs = let e : 1 + n ≡ suc n = omega arith in rw e
 
-value_trimmed : (value : List ℕ) → trimmed value ≡ value → trimmed (behind_sign value) ≡ value
+value_trimmed : (value : List ℕ) → trimmed value ≡ value → trimmed (32 ∷ value) ≡ value
 value_trimmed [] h = refl
 value_trimmed (b ∷ bytes) h = rw (drop_first (prefix_len is_space (b ∷ bytes)) 32 (b ∷ bytes)) h
 
@@ -172,6 +167,6 @@ pub text_says : (set : Setting) (line last : ℕ) → IsSet set
     → setting_of (record { line = line; last = last; text = set_text set }) ≡ Some (record { line = line; name = set.name; value = set.value })
 text_says set line last s =
     let signs : list_any (λ b. eqb b 61) (set.name ++ 32 ∷ []) ≡ false = rw (list_any-append (λ b. eqb b 61) set.name (32 ∷ []), s.sign) in
-    let is = parted line last (set.name ++ 32 ∷ []) (behind_sign set.value) signs in
-    let text : set_text set ≡ (set.name ++ 32 ∷ []) ++ 61 ∷ behind_sign set.value = simp append_assoc in
+    let is = parted line last (set.name ++ 32 ∷ []) (32 ∷ set.value) signs in
+    let text : set_text set ≡ (set.name ++ 32 ∷ []) ++ 61 ∷ 32 ∷ set.value = simp append_assoc in
     rw (text, is, name_trimmed set.name (none_passes is_name_byte is_space no_space set.name (name_bytes set s)), value_trimmed set.value s.value)

@@ -43,14 +43,9 @@ pub record AreSets (sets : List Setting) : Type 0 where
   pub each : list_all is_set sets ≡ true
   pub once : differ (map (λ set. set.name) sets) ≡ true
 
--- a value with a blank before it; nothing where it is empty
-abbrev pub behind_sign : List ℕ → List ℕ
-behind_sign [] = []
-behind_sign (b ∷ bytes) = 32 ∷ b ∷ bytes
-
--- the line that sets a name, with its line feed
+-- the line that sets a name, with its line feed; the blank behind the equals sign stands before an empty value too
 abbrev pub set_line : Setting → List ℕ
-set_line set = set.name ++ codes " =" ++ behind_sign set.value ++ 10 ∷ []
+set_line set = set.name ++ codes " = " ++ set.value ++ 10 ∷ []
 
 -- the number of the line at which a setting begins, 0 where there is none
 abbrev pub line_of : Option Setting → ℕ

@@ -30,12 +30,8 @@ fn add_set(text: &mut Bytes, set: &Setting) -> Result<(), NoMemory>
     ensures { OnOk result (text.new ≡ text.old ++ set_line set.now) }
 {
     text.extend(set.name.as_slice())?;
-    text.extend(b" =")?;
-    let value = set.value.as_slice();
-    if !value.is_empty() {
-        text.push(b' ')?;
-        text.extend(value)?;
-    }
+    text.extend(b" = ")?;
+    text.extend(set.value.as_slice())?;
     text.push(b'\n')
 }
 
@@ -164,9 +160,9 @@ fn edited_text(
 
 impl MainCf {
     /// The text of a main.cf after these are set (postconf(1), -e). The physical lines of the last logical line of each name
-    /// give way to one line `name = value`, or `name =` for an empty value, ended by a line feed; ignored lines between them
-    /// stay and come behind it. Names that the text does not set come as such lines at its end. Every other byte stays. A text
-    /// that `read` refuses is refused alike. The lines of the sets count for nothing.
+    /// give way to one line `name = value`, with both its blanks for an empty value too, ended by a line feed; ignored lines
+    /// between them stay and come behind it. Names that the text does not set come as such lines at its end. Every other byte
+    /// stays. A text that `read` refuses is refused alike. The lines of the sets count for nothing.
     pub fn edit(
         alloc: Global,
         file: &[u8],
