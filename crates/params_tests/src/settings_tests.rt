@@ -1,107 +1,191 @@
 use crate::support::{settings_of, settings_or_line, settings_with};
-use pf_base::{Bytes, List, NoMemory, decimal};
+use pf_base::{Bytes, List, NoMemory, Specs, TableId, decimal};
 use pf_catalogue::{Kind, PARAMS, Param, kind_of, param, param_at, param_name, param_place};
 use pf_params::Settings;
 use std::alloc::Global;
 use std::test::Fail;
 
-// The parameters and their defaults, by their kinds.
+// The parameters, each with the line that would set its default, by their kinds.
 const DEFAULTS: &[(&str, &str)] = &[
-    ("mail_name", "Postfix"),
-    ("mydomain", "localdomain"),
-    ("myhostname", "localhost.localdomain"),
-    ("myorigin", "$myhostname"),
-    ("recipient_delimiter", ""),
-    ("remote_header_rewrite_domain", ""),
-    ("smtpd_banner", "$myhostname ESMTP $mail_name"),
-    ("smtpd_null_access_lookup_key", "<>"),
+    ("mail_name", "mail_name = Postfix"),
+    ("mydomain", "mydomain = localdomain"),
+    ("myhostname", "myhostname = localhost.localdomain"),
+    ("myorigin", "myorigin = $myhostname"),
+    ("recipient_delimiter", "recipient_delimiter = "),
+    (
+        "remote_header_rewrite_domain",
+        "remote_header_rewrite_domain = ",
+    ),
+    (
+        "smtpd_banner",
+        "smtpd_banner = $myhostname ESMTP $mail_name",
+    ),
+    (
+        "smtpd_null_access_lookup_key",
+        "smtpd_null_access_lookup_key = <>",
+    ),
     (
         "smtpd_policy_service_default_action",
-        "451 4.3.5 Server configuration problem",
+        "smtpd_policy_service_default_action = 451 4.3.5 Server configuration problem",
     ),
-    ("header_size_limit", "102400"),
-    ("line_length_limit", "2048"),
-    ("message_size_limit", "10240000"),
-    ("smtpd_hard_error_limit", "20"),
-    ("smtpd_policy_service_try_limit", "2"),
-    ("smtpd_recipient_limit", "1000"),
-    ("virtual_alias_address_length_limit", "1000"),
-    ("virtual_alias_expansion_limit", "1000"),
-    ("virtual_alias_recursion_limit", "1000"),
-    ("access_map_defer_code", "450"),
-    ("access_map_reject_code", "554"),
-    ("defer_code", "450"),
-    ("invalid_hostname_reject_code", "501"),
-    ("maps_rbl_reject_code", "554"),
-    ("multi_recipient_bounce_reject_code", "550"),
-    ("non_fqdn_reject_code", "504"),
-    ("reject_code", "554"),
-    ("relay_domains_reject_code", "554"),
-    ("unknown_address_reject_code", "450"),
-    ("unknown_client_reject_code", "450"),
-    ("unknown_hostname_reject_code", "450"),
-    ("unknown_local_recipient_reject_code", "550"),
-    ("unknown_relay_recipient_reject_code", "550"),
-    ("unknown_virtual_alias_reject_code", "550"),
-    ("unknown_virtual_mailbox_reject_code", "550"),
-    ("allow_percent_hack", "yes"),
-    ("append_at_myorigin", "yes"),
-    ("append_dot_mydomain", "no"),
-    ("smtpd_helo_required", "no"),
-    ("smtpd_reject_unlisted_recipient", "yes"),
-    ("swap_bangpath", "yes"),
-    ("alias_maps", ""),
-    ("body_checks", ""),
-    ("canonical_maps", ""),
-    ("header_checks", ""),
-    ("recipient_canonical_maps", ""),
-    ("relay_recipient_maps", ""),
-    ("sender_canonical_maps", ""),
-    ("virtual_mailbox_maps", ""),
-    ("local_recipient_maps", "$alias_maps"),
-    ("virtual_alias_maps", "$virtual_maps"),
+    ("header_size_limit", "header_size_limit = 102400"),
+    ("line_length_limit", "line_length_limit = 2048"),
+    ("message_size_limit", "message_size_limit = 10240000"),
+    ("smtpd_hard_error_limit", "smtpd_hard_error_limit = 20"),
+    (
+        "smtpd_policy_service_try_limit",
+        "smtpd_policy_service_try_limit = 2",
+    ),
+    ("smtpd_recipient_limit", "smtpd_recipient_limit = 1000"),
+    (
+        "virtual_alias_address_length_limit",
+        "virtual_alias_address_length_limit = 1000",
+    ),
+    (
+        "virtual_alias_expansion_limit",
+        "virtual_alias_expansion_limit = 1000",
+    ),
+    (
+        "virtual_alias_recursion_limit",
+        "virtual_alias_recursion_limit = 1000",
+    ),
+    ("access_map_defer_code", "access_map_defer_code = 450"),
+    ("access_map_reject_code", "access_map_reject_code = 554"),
+    ("defer_code", "defer_code = 450"),
+    (
+        "invalid_hostname_reject_code",
+        "invalid_hostname_reject_code = 501",
+    ),
+    ("maps_rbl_reject_code", "maps_rbl_reject_code = 554"),
+    (
+        "multi_recipient_bounce_reject_code",
+        "multi_recipient_bounce_reject_code = 550",
+    ),
+    ("non_fqdn_reject_code", "non_fqdn_reject_code = 504"),
+    ("reject_code", "reject_code = 554"),
+    (
+        "relay_domains_reject_code",
+        "relay_domains_reject_code = 554",
+    ),
+    (
+        "unknown_address_reject_code",
+        "unknown_address_reject_code = 450",
+    ),
+    (
+        "unknown_client_reject_code",
+        "unknown_client_reject_code = 450",
+    ),
+    (
+        "unknown_hostname_reject_code",
+        "unknown_hostname_reject_code = 450",
+    ),
+    (
+        "unknown_local_recipient_reject_code",
+        "unknown_local_recipient_reject_code = 550",
+    ),
+    (
+        "unknown_relay_recipient_reject_code",
+        "unknown_relay_recipient_reject_code = 550",
+    ),
+    (
+        "unknown_virtual_alias_reject_code",
+        "unknown_virtual_alias_reject_code = 550",
+    ),
+    (
+        "unknown_virtual_mailbox_reject_code",
+        "unknown_virtual_mailbox_reject_code = 550",
+    ),
+    ("allow_percent_hack", "allow_percent_hack = yes"),
+    ("append_at_myorigin", "append_at_myorigin = yes"),
+    ("append_dot_mydomain", "append_dot_mydomain = no"),
+    ("smtpd_helo_required", "smtpd_helo_required = no"),
+    (
+        "smtpd_reject_unlisted_recipient",
+        "smtpd_reject_unlisted_recipient = yes",
+    ),
+    ("swap_bangpath", "swap_bangpath = yes"),
+    ("alias_maps", "alias_maps = "),
+    ("body_checks", "body_checks = "),
+    ("canonical_maps", "canonical_maps = "),
+    ("header_checks", "header_checks = "),
+    ("recipient_canonical_maps", "recipient_canonical_maps = "),
+    ("relay_recipient_maps", "relay_recipient_maps = "),
+    ("sender_canonical_maps", "sender_canonical_maps = "),
+    ("virtual_mailbox_maps", "virtual_mailbox_maps = "),
+    ("local_recipient_maps", "local_recipient_maps = $alias_maps"),
+    ("virtual_alias_maps", "virtual_alias_maps = $virtual_maps"),
     (
         "mydestination",
-        "$myhostname, localhost.$mydomain, localhost",
+        "mydestination = $myhostname, localhost.$mydomain, localhost",
     ),
-    ("relay_domains", ""),
-    ("virtual_alias_domains", "$virtual_alias_maps"),
-    ("virtual_mailbox_domains", "$virtual_mailbox_maps"),
-    ("mynetworks", "127.0.0.0/8 [::1]/128"),
-    ("smtpd_authorized_xclient_hosts", ""),
-    ("smtpd_client_restrictions", ""),
-    ("smtpd_helo_restrictions", ""),
-    ("smtpd_sender_restrictions", ""),
-    ("smtpd_recipient_restrictions", ""),
-    ("smtpd_data_restrictions", ""),
-    ("smtpd_end_of_data_restrictions", ""),
+    ("relay_domains", "relay_domains = "),
+    (
+        "virtual_alias_domains",
+        "virtual_alias_domains = $virtual_alias_maps",
+    ),
+    (
+        "virtual_mailbox_domains",
+        "virtual_mailbox_domains = $virtual_mailbox_maps",
+    ),
+    ("mynetworks", "mynetworks = 127.0.0.0/8 [::1]/128"),
+    (
+        "smtpd_authorized_xclient_hosts",
+        "smtpd_authorized_xclient_hosts = ",
+    ),
+    ("smtpd_client_restrictions", "smtpd_client_restrictions = "),
+    ("smtpd_helo_restrictions", "smtpd_helo_restrictions = "),
+    ("smtpd_sender_restrictions", "smtpd_sender_restrictions = "),
+    (
+        "smtpd_recipient_restrictions",
+        "smtpd_recipient_restrictions = ",
+    ),
+    ("smtpd_data_restrictions", "smtpd_data_restrictions = "),
+    (
+        "smtpd_end_of_data_restrictions",
+        "smtpd_end_of_data_restrictions = ",
+    ),
     (
         "smtpd_relay_restrictions",
-        "permit_mynetworks, permit_sasl_authenticated, defer_unauth_destination",
+        "smtpd_relay_restrictions = permit_mynetworks, permit_sasl_authenticated, defer_unauth_destination",
     ),
     (
         "canonical_classes",
-        "envelope_sender, envelope_recipient, header_sender, header_recipient",
+        "canonical_classes = envelope_sender, envelope_recipient, header_sender, header_recipient",
     ),
     (
         "masquerade_classes",
-        "envelope_sender, header_sender, header_recipient",
+        "masquerade_classes = envelope_sender, header_sender, header_recipient",
     ),
     (
         "recipient_canonical_classes",
-        "envelope_recipient, header_recipient",
+        "recipient_canonical_classes = envelope_recipient, header_recipient",
     ),
-    ("sender_canonical_classes", "envelope_sender, header_sender"),
-    ("propagate_unmatched_extensions", "canonical, virtual"),
-    ("inet_interfaces", "all"),
-    ("local_header_rewrite_clients", "permit_inet_interfaces"),
-    ("masquerade_domains", ""),
-    ("masquerade_exceptions", ""),
-    ("smtpd_restriction_classes", ""),
-    ("resolve_dequoted_address", "yes"),
-    ("smtpd_delay_reject", "yes"),
-    ("smtpd_relay_before_recipient_restrictions", "yes"),
-    ("parent_domain_matches_subdomains", ""),
+    (
+        "sender_canonical_classes",
+        "sender_canonical_classes = envelope_sender, header_sender",
+    ),
+    (
+        "propagate_unmatched_extensions",
+        "propagate_unmatched_extensions = canonical, virtual",
+    ),
+    ("inet_interfaces", "inet_interfaces = all"),
+    (
+        "local_header_rewrite_clients",
+        "local_header_rewrite_clients = permit_inet_interfaces",
+    ),
+    ("masquerade_domains", "masquerade_domains = "),
+    ("masquerade_exceptions", "masquerade_exceptions = "),
+    ("smtpd_restriction_classes", "smtpd_restriction_classes = "),
+    ("resolve_dequoted_address", "resolve_dequoted_address = yes"),
+    ("smtpd_delay_reject", "smtpd_delay_reject = yes"),
+    (
+        "smtpd_relay_before_recipient_restrictions",
+        "smtpd_relay_before_recipient_restrictions = yes",
+    ),
+    (
+        "parent_domain_matches_subdomains",
+        "parent_domain_matches_subdomains = ",
+    ),
 ];
 
 // A main.cf, and `ok` or the line of its refusal.
@@ -538,20 +622,29 @@ const SPECS: &[(&str, &str)] = &[
     ),
 ];
 
+// The name, the default and the line of a parameter that is not set.
+fn default_of(alloc: Global, settings: &Settings, name: &[u8]) -> Result<Bytes, NoMemory> {
+    let mut printed = Bytes::new(alloc);
+    let Some(p) = param(name) else {
+        return Ok(printed);
+    };
+    printed.extend(param_name(p))?;
+    printed.extend(b" = ")?;
+    printed.extend(settings.raw(p).as_slice())?;
+    if settings.line(p) > 0 {
+        printed.push(b'!')?;
+    }
+    Ok(printed)
+}
+
 #[test]
 fn each_parameter_has_its_default(rt: HostRuntime) -> Result<(), Fail> {
     let alloc = rt.alloc();
     let settings = settings_of(alloc, b"")?;
     assert_eq!(rt; DEFAULTS.len() as u64, u64::from(PARAMS));
-    for (name, preset) in DEFAULTS {
-        match param(name.as_bytes()) {
-            Some(p) => {
-                assert_eq!(rt; settings.raw(p).as_slice(), preset.as_bytes(), "{name}");
-                assert_eq!(rt; param_name(p), name.as_bytes());
-                assert_eq!(rt; settings.line(p), 0);
-            }
-            None => assert!(rt; false, "{name}"),
-        }
+    for (name, line) in DEFAULTS {
+        let seen = default_of(alloc, &settings, name.as_bytes())?;
+        assert_eq!(rt; seen.as_slice(), line.as_bytes(), "{name}");
     }
     Ok(())
 }
@@ -662,37 +755,64 @@ fn line(alloc: Global, settings: &Settings, name: &[u8]) -> Result<Bytes, NoMemo
     }
 }
 
+// The value of a parameter of a main.cf.
+fn value_in(alloc: Global, text: &[u8], name: &[u8]) -> Result<Bytes, NoMemory> {
+    let settings = settings_of(alloc, text)?;
+    value(alloc, &settings, name)
+}
+
+// The line of its last setting.
+fn line_in(alloc: Global, text: &[u8], name: &[u8]) -> Result<Bytes, NoMemory> {
+    let settings = settings_of(alloc, text)?;
+    line(alloc, &settings, name)
+}
+
 #[test]
 fn parameters_have_their_values(rt: HostRuntime) -> Result<(), Fail> {
     let alloc = rt.alloc();
     for (text, name, end) in VALUES {
-        let settings = settings_of(alloc, text.as_bytes())?;
-        let seen = value(alloc, &settings, name.as_bytes())?;
-        assert_eq!(rt; seen.as_slice(), end.as_bytes(), "{text}: {name}");
-    }
-    for (text, name, end) in SAID {
-        let seen = said_by(alloc, text.as_bytes(), name.as_bytes())?;
-        assert_eq!(rt; seen.as_slice(), end.as_bytes(), "{text}: {name}");
-    }
-    for (text, name, end) in LINES {
-        let settings = settings_of(alloc, text.as_bytes())?;
-        let seen = line(alloc, &settings, name.as_bytes())?;
+        let seen = value_in(alloc, text.as_bytes(), name.as_bytes())?;
         assert_eq!(rt; seen.as_slice(), end.as_bytes(), "{text}: {name}");
     }
     Ok(())
 }
 
 #[test]
-fn overriding_settings_count(rt: HostRuntime) -> Result<(), Fail> {
+fn values_say_what_they_say(rt: HostRuntime) -> Result<(), Fail> {
     let alloc = rt.alloc();
-    let settings = settings_with(alloc, b"mail_name = a\nx = $mail_name", b"mail_name", b"b")?;
+    for (text, name, end) in SAID {
+        let seen = said_by(alloc, text.as_bytes(), name.as_bytes())?;
+        assert_eq!(rt; seen.as_slice(), end.as_bytes(), "{text}: {name}");
+    }
+    Ok(())
+}
+
+#[test]
+fn settings_have_their_lines(rt: HostRuntime) -> Result<(), Fail> {
+    let alloc = rt.alloc();
+    for (text, name, end) in LINES {
+        let seen = line_in(alloc, text.as_bytes(), name.as_bytes())?;
+        assert_eq!(rt; seen.as_slice(), end.as_bytes(), "{text}: {name}");
+    }
+    Ok(())
+}
+
+// The value and the line of mail_name where one setting counts after those of main.cf, and the banner.
+fn overridden(alloc: Global) -> Result<Bytes, NoMemory> {
+    let settings = settings_with(alloc, b"mail_name = a", b"mail_name", b"b")?;
+    let banner = value(alloc, &settings, b"smtpd_banner")?;
+    let line = line(alloc, &settings, b"mail_name")?;
+    let mut printed = Bytes::new(alloc);
+    printed.extend_all(&[banner.as_slice(), b" ", line.as_slice()])?;
+    Ok(printed)
+}
+
+#[test]
+fn overriding_settings_count(rt: HostRuntime) -> Result<(), Fail> {
+    let seen = overridden(rt.alloc())?;
     assert_eq!(rt;
-        value(alloc, &settings, b"smtpd_banner")?.as_slice(),
-        b"localhost.localdomain ESMTP b".as_slice()
-    );
-    assert_eq!(rt;
-        line(alloc, &settings, b"mail_name")?.as_slice(),
-        b"0".as_slice()
+        seen.as_slice(),
+        b"localhost.localdomain ESMTP b 0".as_slice()
     );
     Ok(())
 }
@@ -719,19 +839,23 @@ fn classes_have_their_items(rt: HostRuntime) -> Result<(), Fail> {
     Ok(())
 }
 
+// Adds a table text behind its line.
+fn add_spec(alloc: Global, printed: &mut Bytes, specs: &Specs, n: u64) -> Result<(), NoMemory> {
+    if n >= specs.len() {
+        return Ok(());
+    }
+    let line = number_text(alloc, specs.line(TableId(n)))?;
+    let text = specs.text(TableId(n));
+    printed.extend_all(&[line.as_slice(), b" ", text.as_slice(), b"|"])
+}
+
 // The table texts of a main.cf, each behind its line.
 fn specs_text(alloc: Global, text: &[u8]) -> Result<Bytes, NoMemory> {
     let settings = settings_of(alloc, text)?;
     let specs = settings.specs(alloc)?;
     let mut printed = Bytes::new(alloc);
     for n in 0..specs.len() {
-        let line = number_text(alloc, specs.line(pf_base::TableId(n)))?;
-        printed.extend_all(&[
-            line.as_slice(),
-            b" ",
-            specs.text(pf_base::TableId(n)).as_slice(),
-            b"|",
-        ])?;
+        add_spec(alloc, &mut printed, &specs, n)?;
     }
     Ok(printed)
 }
