@@ -1,10 +1,10 @@
 -- Worked examples of the definitions, each by computation.
-use Rattle.std.proofs.Common.{◌≡◌, ℕ, List, [], None, Some, Ok, Err, refl, codes, if◌then◌else◌}
+use Rattle.std.proofs.Common.{◌≡◌, ℕ, List, [], ◌∷◌, None, Some, Ok, Err, map, refl, codes, if◌then◌else◌}
 use Rattle.std.specs.Str.{bytes_eq}
 use Rattle.pf_expand.specs.Expansion.{Answer, first_flaw, parts, text_value}
 use Rattle.pf_expand.specs.Forms.{first_part, form_of}
 use Rattle.pf_expand.specs.Forms.{Part as part}
-use Rattle.pf_expand.specs.Names.{Source, domain_in, expanded, name_value}
+use Rattle.pf_expand.specs.Names.{Source, domain_in, expanded, name_value, with_source}
 use Rattle.pf_expand.specs.Names.{Source as source}
 use Rattle.pf_expand.specs.declared.flaw.Flaw.TheVariants.{BadForm, TooDeep, TooLong}
 
@@ -39,6 +39,10 @@ sources name =
     else if bytes_eq name (codes "host") then source.text (codes "mx.${x:none}example.com")
     else if bytes_eq name (codes "domain") then source.domain (codes "host")
     else source.text []
+
+one_changed : map (with_source sources (codes "x") (source.domain (codes "y"))) (codes "x" ∷ codes "y" ∷ codes "xx" ∷ [])
+    ≡ source.domain (codes "y") ∷ source.text (codes "<$x>") ∷ source.text [] ∷ []
+one_changed = refl
 
 abbrev value : List ℕ → Answer
 value bytes = expanded sources bytes
@@ -88,6 +92,11 @@ no_dot = refl
 
 past_the_first_dot : domain_in (codes "mx.example.com") ≡ codes "example.com"
 past_the_first_dot = refl
+
+-- a name takes a level, and so does each name in its text
+levels_of_a_name : map (λ n. name_value sources n (codes "y")) (0 ∷ 1 ∷ 2 ∷ []) ≡ Err TooDeep ∷ Err TooDeep ∷ Ok (codes "<X y>") ∷ []
+unfolding text_value parts first_part form_of name_value
+levels_of_a_name = refl
 
 -- flaws
 a_dollar_alone : value (codes "a$") ≡ Err BadForm

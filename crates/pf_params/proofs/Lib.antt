@@ -3,6 +3,7 @@ pub mod ClassLaws
 pub mod KindLaws
 pub mod PresetLaws
 pub mod ReadingLaws
+mod Rows
 pub mod SettledLaws
 pub mod TableLaws
 pub mod TextLaws
