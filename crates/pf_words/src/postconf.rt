@@ -2,13 +2,12 @@
 //! `postconf -e [-c folder] name=value ..`.
 ghost use Rattle.std.specs.Prelude.{◌≡◌, true, IfOk, IfSome, map};
 ghost use Rattle.std.specs.String.{string_bytes};
-ghost use Rattle.clap.specs.Words.{app_of};
 ghost use Rattle.pf_words.specs.Commands as commands;
 ghost use Rattle.pf_words.specs.Found.{rows_found};
 ghost use Rattle.pf_words.specs.Postconf as postconf;
 
 use crate::command::{
-    bare_command, copied, has_flag, matches_in, rest_in, value_in, with_flag, with_option,
+    bare_command, copied, has_flag, matches_in, rest_in, value_in, with_flags, with_options,
     with_rest,
 };
 use crate::sets::{setting_of_word, settings_of_words};
@@ -46,26 +45,23 @@ pub struct ConfWords {
     pub rest: List<Bytes>,
 }
 
-fn with_flags<'a>(alloc: Global, command: Command<'a>) -> Result<Command<'a>, NoMemory>
-    ensures { IfOk result (λ longer. app_of longer ≡ commands.with_flags (app_of command.entry)) }
-{
-    let command = with_flag(alloc, command, 'n', "set")?;
-    let command = with_flag(alloc, command, 'd', "defaults")?;
-    let command = with_flag(alloc, command, 'x', "expanded")?;
-    let command = with_flag(alloc, command, 'h', "values")?;
-    let command = with_flag(alloc, command, 'H', "names")?;
-    let command = with_flag(alloc, command, 'e', "edit")?;
-    Ok(command)
-}
-
 fn postconf_command<'a>(alloc: Global) -> Result<Command<'a>, NoMemory>
-    ensures { IfOk result (λ command. app_of command ≡ commands.postconf_app) }
+    ensures { IfOk result (λ command. commands.app_in command ≡ commands.postconf_app) }
 {
-    let command = with_flags(alloc, bare_command(alloc, "postconf"))?;
-    let command = with_option(alloc, command, 'c', "folder")?;
-    let command = with_option(alloc, command, 'o', "over")?;
-    let command = with_rest(alloc, command, "rest")?;
-    Ok(command)
+    let command = with_flags(
+        alloc,
+        bare_command(alloc, "postconf"),
+        &[
+            ('n', "set"),
+            ('d', "defaults"),
+            ('x', "expanded"),
+            ('h', "values"),
+            ('H', "names"),
+            ('e', "edit"),
+        ],
+    )?;
+    let command = with_options(alloc, command, &[('c', "folder"), ('o', "over")])?;
+    with_rest(alloc, command, "rest")
 }
 
 fn mode_in(matches: &ArgMatches<'_>) -> ConfMode

@@ -1,14 +1,13 @@
 //! The words of smtpd: `smtpd [-c folder] -p client -m mail [-l log] [-b budget]`.
 ghost use Rattle.std.specs.Prelude.{◌≡◌, IfOk, map, option_map};
 ghost use Rattle.std.specs.String.{string_bytes};
-ghost use Rattle.clap.specs.Words.{app_of};
 ghost use Rattle.pf_words.specs.Commands as commands;
 ghost use Rattle.pf_words.specs.Found.{rows_found};
 ghost use Rattle.pf_words.specs.OptionsMeant.{options_meant};
 ghost use Rattle.pf_words.specs.Smtpd as smtpd;
 
 use crate::address::ipv4_of;
-use crate::command::{bare_command, copied, matches_in, value_in, with_option};
+use crate::command::{bare_command, copied, matches_in, value_in, with_options};
 use crate::numbers::{GREATEST_BUDGET, budget_of};
 use clap::{ArgMatches, Command};
 use pf_base::{Bytes, NoMemory};
@@ -36,15 +35,19 @@ pub(crate) struct Options<'a> {
 }
 
 fn smtpd_command<'a>(alloc: Global) -> Result<Command<'a>, NoMemory>
-    ensures { IfOk result (λ command. app_of command ≡ commands.smtpd_app) }
+    ensures { IfOk result (λ command. commands.app_in command ≡ commands.smtpd_app) }
 {
-    let command = bare_command(alloc, "smtpd");
-    let command = with_option(alloc, command, 'c', "folder")?;
-    let command = with_option(alloc, command, 'p', "client")?;
-    let command = with_option(alloc, command, 'm', "mail")?;
-    let command = with_option(alloc, command, 'l', "log")?;
-    let command = with_option(alloc, command, 'b', "budget")?;
-    Ok(command)
+    with_options(
+        alloc,
+        bare_command(alloc, "smtpd"),
+        &[
+            ('c', "folder"),
+            ('p', "client"),
+            ('m', "mail"),
+            ('l', "log"),
+            ('b', "budget"),
+        ],
+    )
 }
 
 fn budget_in(text: Option<&str>) -> Option<u64>
