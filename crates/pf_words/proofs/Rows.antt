@@ -10,7 +10,7 @@ use Rattle.pf_maincf.specs.declared.setting.Setting.{Setting}
 use Rattle.pf_words.specs.Address.{ipv4_of, ipv4_of_octets, digit_at, has_digit, has_leading_digit, octet_of, three_digits, ◌>>=◌}
 use Rattle.pf_words.specs.Commands.{bare_app, postconf_app, smtpd_app, with_flag, with_option, with_rest}
 use Rattle.pf_words.specs.Found.{has_flag, rows_in, value_in}
-use Rattle.pf_words.specs.Numbers.{budget_of, is_counting}
+use Rattle.pf_words.specs.Numbers.{budget_of, is_counting_number}
 use Rattle.pf_words.specs.Postconf.{conf_in, conf_of}
 use Rattle.pf_words.specs.Sets.{setting_of_word, settings_of_words}
 use Rattle.pf_words.specs.Smtpd.{smtpd_in, smtpd_of}
@@ -86,7 +86,7 @@ unfolding ipv4_of octet_of
 no_addresses = refl
 
 -- budgets
-digits_that_count : map is_counting (codes "1" ∷ codes "10" ∷ codes "0" ∷ codes "01" ∷ codes "1a" ∷ codes "+1" ∷ [] ∷ [])
+digits_that_count : map is_counting_number (codes "1" ∷ codes "10" ∷ codes "0" ∷ codes "01" ∷ codes "1a" ∷ codes "+1" ∷ [] ∷ [])
     ≡ true ∷ true ∷ false ∷ false ∷ false ∷ false ∷ false ∷ []
 digits_that_count = refl
 

@@ -129,7 +129,7 @@ pub(crate) fn has_flag(matches: &ArgMatches<'_>, id: &str) -> bool
     }
 }
 
-fn copies(alloc: Global, texts: &[&str]) -> Result<List<Bytes>, NoMemory>
+fn copies_of(alloc: Global, texts: &[&str]) -> Result<List<Bytes>, NoMemory>
     ensures { IfOk result (λ copies. copies ≡ map (λ text. text.now) texts.now) }
 {
     let mut copies = List::new(alloc);
@@ -146,12 +146,12 @@ pub(crate) fn rest_in(alloc: Global, matches: &ArgMatches<'_>) -> Result<List<By
 {
     match matches.get_raw("rest") {
         None => Ok(List::new(alloc)),
-        Some(words) => copies(alloc, words),
+        Some(words) => copies_of(alloc, words),
     }
 }
 
 /// A copy of a text, where there is one.
-pub(crate) fn copied(alloc: Global, text: Option<&str>) -> Result<Option<Bytes>, NoMemory>
+pub(crate) fn copy_of(alloc: Global, text: Option<&str>) -> Result<Option<Bytes>, NoMemory>
     ensures { IfOk result (λ copy. copy ≡ option_map (λ t. t.now) text.entry) }
 {
     match text {

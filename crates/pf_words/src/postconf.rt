@@ -7,7 +7,7 @@ ghost use Rattle.pf_words.specs.Found.{rows_found};
 ghost use Rattle.pf_words.specs.Postconf as postconf;
 
 use crate::command::{
-    bare_command, copied, has_flag, matches_in, rest_in, value_in, with_flags, with_options,
+    bare_command, copy_of, has_flag, matches_in, rest_in, value_in, with_flags, with_options,
     with_rest,
 };
 use crate::sets::{setting_of_word, settings_of_words};
@@ -91,8 +91,8 @@ fn shape_in(matches: &ArgMatches<'_>) -> Shape
 }
 
 // Whether something is said of how to print.
-fn asks_print(matches: &ArgMatches<'_>) -> bool
-    ensures { result ≡ postconf.asks_print (rows_found matches.now) }
+fn has_print_option(matches: &ArgMatches<'_>) -> bool
+    ensures { result ≡ postconf.has_print_option (rows_found matches.now) }
 {
     has_flag(matches, "set")
         || has_flag(matches, "defaults")
@@ -103,12 +103,12 @@ fn asks_print(matches: &ArgMatches<'_>) -> bool
 }
 
 // Whether no two options stand beside each other that do not go together.
-fn is_one_question(matches: &ArgMatches<'_>) -> bool
-    ensures { result ≡ postconf.is_one_question (rows_found matches.now) }
+fn options_agree(matches: &ArgMatches<'_>) -> bool
+    ensures { result ≡ postconf.options_agree (rows_found matches.now) }
 {
     !(has_flag(matches, "set") && has_flag(matches, "defaults"))
         && !(has_flag(matches, "values") && has_flag(matches, "names"))
-        && !(has_flag(matches, "edit") && asks_print(matches))
+        && !(has_flag(matches, "edit") && has_print_option(matches))
 }
 
 // Whether the value of `-o`, if there is one, sets a parameter.
@@ -155,8 +155,8 @@ fn conf_with(alloc: Global, matches: &ArgMatches<'_>) -> Result<ConfWords, NoMem
         mode: mode_in(matches),
         expanded: has_flag(matches, "expanded"),
         shape: shape_in(matches),
-        folder: copied(alloc, value_in(matches, "folder"))?,
-        over: copied(alloc, value_in(matches, "over"))?,
+        folder: copy_of(alloc, value_in(matches, "folder"))?,
+        over: copy_of(alloc, value_in(matches, "over"))?,
         rest: rest_in(alloc, matches)?,
     })
 }
@@ -166,7 +166,7 @@ fn conf_in(alloc: Global, matches: &ArgMatches<'_>) -> Result<Option<ConfWords>,
     ensures is { IfOk result (λ conf. conf ≡ postconf.conf_in (rows_found matches.now)) }
     ensures sets { IfOk result (λ conf. IfSome conf (λ words. postconf.sets_parameters words ≡ true)) }
 {
-    if !is_one_question(matches) {
+    if !options_agree(matches) {
         return Ok(None);
     }
     let conf = conf_with(alloc, matches)?;

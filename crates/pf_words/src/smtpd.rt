@@ -7,7 +7,7 @@ ghost use Rattle.pf_words.specs.OptionsMeant.{options_meant};
 ghost use Rattle.pf_words.specs.Smtpd as smtpd;
 
 use crate::address::ipv4_of;
-use crate::command::{bare_command, copied, matches_in, value_in, with_options};
+use crate::command::{bare_command, copy_of, matches_in, value_in, with_options};
 use crate::numbers::{GREATEST_BUDGET, budget_of};
 use clap::{ArgMatches, Command};
 use pf_base::{Bytes, NoMemory};
@@ -92,14 +92,14 @@ pub(crate) fn smtpd_options<'a>(
 }
 
 // The options with copies of the names.
-fn copied_options(alloc: Global, options: &Options<'_>) -> Result<SmtpdWords, NoMemory>
+fn owned_words(alloc: Global, options: &Options<'_>) -> Result<SmtpdWords, NoMemory>
     ensures { IfOk result (λ words. words ≡ options_meant options.now) }
 {
     Ok(SmtpdWords {
-        folder: copied(alloc, options.folder)?,
+        folder: copy_of(alloc, options.folder)?,
         client: options.client,
         mail: Bytes::from_slice(alloc, options.mail.as_bytes())?,
-        log: copied(alloc, options.log)?,
+        log: copy_of(alloc, options.log)?,
         budget: options.budget,
     })
 }
@@ -110,6 +110,6 @@ pub(crate) fn smtpd_words(alloc: Global, words: &[String]) -> Result<Option<Smtp
 {
     match smtpd_options(alloc, words)? {
         None => Ok(None),
-        Some(options) => Ok(Some(copied_options(alloc, &options)?)),
+        Some(options) => Ok(Some(owned_words(alloc, &options)?)),
     }
 }
