@@ -2,15 +2,15 @@
 use Rattle.std.proofs.Common.{◌≡◌, ℕ, true, false, List, [], ◌∷◌, map, Option, None, Some, option_map, refl, codes}
 use Rattle.std.specs.Fmt.{decimal, digits}
 use Rattle.std.specs.List.{range_with_len, slice_split}
-use Rattle.std.specs.Prelude.{◌==◌}
-use Rattle.clap.specs.Words.{fault_of, is_simple_and_free}
+use Rattle.std.specs.Prelude.{◌==◌, ⊤}
+use Rattle.clap.specs.Words.{fault_of}
 use Rattle.clap.specs.declared.error.kind.ErrorKind.TheVariants as kind
 use Rattle.clap.proofs.OnLiterals.{clap_on_literals}
 use Rattle.pf_maincf.specs.declared.setting.Setting.{Setting}
 use Rattle.pf_words.specs.Address.{ipv4_of, ipv4_of_octets, digit_at, has_digit, has_leading_digit, octet_of, three_digits, ◌>>=◌}
-use Rattle.pf_words.specs.Commands.{postconf_app, smtpd_app}
+use Rattle.pf_words.specs.Commands.{bare_app, postconf_app, smtpd_app, with_flag, with_option, with_rest}
 use Rattle.pf_words.specs.Found.{has_flag, rows_in, value_in}
-use Rattle.pf_words.specs.Numbers.{budget_of, is_counting}
+use Rattle.pf_words.specs.Numbers.{budget_of, is_counting_number}
 use Rattle.pf_words.specs.Postconf.{conf_in, conf_of}
 use Rattle.pf_words.specs.Sets.{setting_of_word, settings_of_words}
 use Rattle.pf_words.specs.Smtpd.{smtpd_in, smtpd_of}
@@ -21,6 +21,11 @@ use Rattle.pf_words.specs.declared.postconf.Shape.TheVariants as shape
 use Rattle.pf_words.specs.declared.smtpd.SmtpdWords.{SmtpdWords}
 use Rattle.pf_words.specs.declared.words.Words.{Words}
 use Rattle.pf_words.specs.declared.words.Words.TheVariants.{Smtpd, Postconf}
+
+-- what a proof opens to see the commands
+unfoldable given_to_clap : ⊤
+unfolding bare_app with_flag with_option with_rest
+given_to_clap = tt
 
 -- the words of a line in which single blanks part them; two blanks have an empty word between them
 abbrev words_in : List ℕ → List (List ℕ)
@@ -81,7 +86,7 @@ unfolding ipv4_of octet_of
 no_addresses = refl
 
 -- budgets
-digits_that_count : map is_counting (codes "1" ∷ codes "10" ∷ codes "0" ∷ codes "01" ∷ codes "1a" ∷ codes "+1" ∷ [] ∷ [])
+digits_that_count : map is_counting_number (codes "1" ∷ codes "10" ∷ codes "0" ∷ codes "01" ∷ codes "1a" ∷ codes "+1" ∷ [] ∷ [])
     ≡ true ∷ true ∷ false ∷ false ∷ false ∷ false ∷ false ∷ []
 digits_that_count = refl
 
@@ -123,25 +128,20 @@ names_differ : map settings_of_words (words_in (codes "a=1 b=1") ∷ words_in (c
 unfolding settings_of_words setting_of_word
 names_differ = refl
 
--- the commands are such that clap's contracts say all of what it answers
-commands_are_simple : map is_simple_and_free (smtpd_app ∷ postconf_app ∷ []) ≡ true ∷ true ∷ []
-unfolding clap_on_literals
-commands_are_simple = refl
-
 -- the kinds of clap's faults: a value twice, none, no such option
 faults_of_words : map (λ line. fault_of smtpd_app (words_in line)) (codes "smtpd -m a -m b" ∷ codes "smtpd -m" ∷ codes "smtpd -z" ∷ codes "smtpd -m a" ∷ [])
     ≡ (kind.ArgumentConflict ∷ []) ∷ (kind.InvalidValue ∷ []) ∷ (kind.UnknownArgument ∷ []) ∷ [] ∷ []
-unfolding clap_on_literals
+unfolding given_to_clap clap_on_literals
 faults_of_words = refl
 
 flags_found : map (λ line. option_map (has_flag (codes "set")) (rows_in postconf_app (words_in line))) (codes "postconf -n" ∷ codes "postconf true" ∷ codes "postconf -z" ∷ [])
     ≡ Some true ∷ Some false ∷ None ∷ []
-unfolding rows_in clap_on_literals
+unfolding rows_in given_to_clap clap_on_literals
 flags_found = refl
 
 values_found : map (λ line. option_map (value_in (codes "mail")) (rows_in smtpd_app (words_in line))) (codes "smtpd -m a" ∷ codes "smtpd -l a" ∷ [])
     ≡ Some (Some (codes "a")) ∷ Some None ∷ []
-unfolding rows_in clap_on_literals
+unfolding rows_in given_to_clap clap_on_literals
 values_found = refl
 
 -- smtpd
@@ -150,46 +150,46 @@ smtpd = record { folder = None; client = 167838211; mail = codes "mail"; log = N
 
 client_and_mail : map said (codes "smtpd -p 10.1.2.3 -m mail" ∷ codes "smtpd -m mail -p 10.1.2.3" ∷ [])
     ≡ Some (Smtpd smtpd) ∷ Some (Smtpd smtpd) ∷ []
-unfolding words_of smtpd_of smtpd_in rows_in clap_on_literals ipv4_of octet_of
+unfolding words_of smtpd_of smtpd_in rows_in given_to_clap clap_on_literals ipv4_of octet_of
 client_and_mail = refl
 
 values_in_the_same_word : map said (codes "smtpd -p10.1.2.3 -m=mail" ∷ codes "smtpd -p 10.1.2.3 -m==mail --" ∷ codes "smtpd -p 10.1.2.3 -m=" ∷ [])
     ≡ Some (Smtpd smtpd) ∷ Some (Smtpd (record smtpd { mail = codes "=mail" })) ∷ Some (Smtpd (record smtpd { mail = [] })) ∷ []
-unfolding words_of smtpd_of smtpd_in rows_in clap_on_literals ipv4_of octet_of
+unfolding words_of smtpd_of smtpd_in rows_in given_to_clap clap_on_literals ipv4_of octet_of
 values_in_the_same_word = refl
 
 all_options : said (codes "smtpd -b 7 -l log -c etc -m mail -p 10.1.2.3")
     ≡ Some (Smtpd (record smtpd { folder = Some (codes "etc"); log = Some (codes "log"); budget = 7 }))
-unfolding words_of smtpd_of smtpd_in rows_in clap_on_literals ipv4_of octet_of budget_of
+unfolding words_of smtpd_of smtpd_in rows_in given_to_clap clap_on_literals ipv4_of octet_of budget_of
 all_options = refl
 
 dash_and_empty_word : map said (codes "smtpd -p 10.1.2.3 -m - -l -" ∷ codes "smtpd -m  -p 10.1.2.3" ∷ [])
     ≡ Some (Smtpd (record smtpd { mail = codes "-"; log = Some (codes "-") })) ∷ Some (Smtpd (record smtpd { mail = [] })) ∷ []
-unfolding words_of smtpd_of smtpd_in rows_in clap_on_literals ipv4_of octet_of
+unfolding words_of smtpd_of smtpd_in rows_in given_to_clap clap_on_literals ipv4_of octet_of
 dash_and_empty_word = refl
 
 option_is_no_value : map said (codes "smtpd -p 10.1.2.3 -m -l" ∷ codes "smtpd -p 10.1.2.3 -m -x" ∷ codes "smtpd -p 10.1.2.3 -m -- mail" ∷ [])
     ≡ None ∷ None ∷ None ∷ []
-unfolding words_of smtpd_of smtpd_in rows_in clap_on_literals ipv4_of octet_of
+unfolding words_of smtpd_of smtpd_in rows_in given_to_clap clap_on_literals ipv4_of octet_of
 option_is_no_value = refl
 
 one_of_the_two_is_missing : map said (codes "smtpd -p 10.1.2.3" ∷ codes "smtpd -m mail" ∷ codes "smtpd" ∷ codes "smtpd -p 10.1.2.3 -m" ∷ [])
     ≡ None ∷ None ∷ None ∷ None ∷ []
-unfolding words_of smtpd_of smtpd_in rows_in clap_on_literals ipv4_of octet_of
+unfolding words_of smtpd_of smtpd_in rows_in given_to_clap clap_on_literals ipv4_of octet_of
 one_of_the_two_is_missing = refl
 
 bad_values : map said (codes "smtpd -p 10.1.2 -m mail" ∷ codes "smtpd -p 10.1.2.3 -m mail -b 0" ∷ codes "smtpd -p 10.1.2.3 -m mail -b " ∷ [])
     ≡ None ∷ None ∷ None ∷ []
-unfolding words_of smtpd_of smtpd_in rows_in clap_on_literals ipv4_of octet_of budget_of
+unfolding words_of smtpd_of smtpd_in rows_in given_to_clap clap_on_literals ipv4_of octet_of budget_of
 bad_values = refl
 
 option_twice : map said (codes "smtpd -p 10.1.2.3 -m mail -m mail" ∷ codes "smtpd -p 10.1.2.3 -l a -m mail -l=a" ∷ []) ≡ None ∷ None ∷ []
-unfolding words_of smtpd_of smtpd_in rows_in clap_on_literals ipv4_of octet_of
+unfolding words_of smtpd_of smtpd_in rows_in given_to_clap clap_on_literals ipv4_of octet_of
 option_twice = refl
 
 other_words : map said (codes "smtpd -p 10.1.2.3 -m mail -h" ∷ codes "smtpd -p 10.1.2.3 -m mail --help" ∷ codes "smtpd -p 10.1.2.3 -m mail more" ∷ [])
     ≡ None ∷ None ∷ None ∷ []
-unfolding words_of smtpd_of smtpd_in rows_in clap_on_literals ipv4_of octet_of
+unfolding words_of smtpd_of smtpd_in rows_in given_to_clap clap_on_literals ipv4_of octet_of
 other_words = refl
 
 -- postconf
@@ -202,54 +202,54 @@ edit = record all { mode = mode.Edit }
 all_settings : map said (codes "postconf" ∷ codes "postconf myhostname  - mydomain" ∷ codes "postconf -- -n" ∷ [])
     ≡ Some (Postconf all) ∷ Some (Postconf (record all { rest = codes "myhostname" ∷ [] ∷ codes "-" ∷ codes "mydomain" ∷ [] }))
     ∷ Some (Postconf (record all { rest = codes "-n" ∷ [] })) ∷ []
-unfolding words_of conf_of conf_in rows_in clap_on_literals
+unfolding words_of conf_of conf_in rows_in given_to_clap clap_on_literals
 all_settings = refl
 
 options_and_names : said (codes "postconf a -n b -h -c etc -x")
     ≡ Some (Postconf (record all { mode = mode.Set; expanded = true; shape = shape.Values; folder = Some (codes "etc"); rest = codes "a" ∷ codes "b" ∷ [] }))
-unfolding words_of conf_of conf_in rows_in clap_on_literals
+unfolding words_of conf_of conf_in rows_in given_to_clap clap_on_literals
 options_and_names = refl
 
 joined_flags : map said (codes "postconf -dH" ∷ codes "postconf -xnc=etc a" ∷ [])
     ≡ Some (Postconf (record all { mode = mode.Defaults; shape = shape.Names }))
     ∷ Some (Postconf (record all { mode = mode.Set; expanded = true; folder = Some (codes "etc"); rest = codes "a" ∷ [] })) ∷ []
-unfolding words_of conf_of conf_in rows_in clap_on_literals
+unfolding words_of conf_of conf_in rows_in given_to_clap clap_on_literals
 joined_flags = refl
 
 setting_over_the_others : map said (codes "postconf -o a=b=c" ∷ codes "postconf -oa=" ∷ codes "postconf -o=a=b -n" ∷ [])
     ≡ Some (Postconf (record all { over = Some (codes "a=b=c") })) ∷ Some (Postconf (record all { over = Some (codes "a=") }))
     ∷ Some (Postconf (record all { mode = mode.Set; over = Some (codes "a=b") })) ∷ []
-unfolding words_of conf_of conf_in rows_in clap_on_literals setting_of_word
+unfolding words_of conf_of conf_in rows_in given_to_clap clap_on_literals setting_of_word
 setting_over_the_others = refl
 
 no_setting_over_the_others : map said (codes "postconf -o a" ∷ codes "postconf -o =b" ∷ codes "postconf -o a=b -o c=d" ∷ codes "postconf -o" ∷ [])
     ≡ None ∷ None ∷ None ∷ None ∷ []
-unfolding words_of conf_of conf_in rows_in clap_on_literals setting_of_word
+unfolding words_of conf_of conf_in rows_in given_to_clap clap_on_literals setting_of_word
 no_setting_over_the_others = refl
 
 two_of_an_or : map said (codes "postconf -n -d" ∷ codes "postconf -hH" ∷ codes "postconf -nxd a" ∷ []) ≡ None ∷ None ∷ None ∷ []
-unfolding words_of conf_of conf_in rows_in clap_on_literals
+unfolding words_of conf_of conf_in rows_in given_to_clap clap_on_literals
 two_of_an_or = refl
 
 flags_that_are_none : map said (codes "postconf -nn" ∷ codes "postconf -n a -n" ∷ codes "postconf -z" ∷ codes "postconf -n=a" ∷ codes "postconf --names" ∷ [])
     ≡ None ∷ None ∷ None ∷ None ∷ None ∷ []
-unfolding words_of conf_of conf_in rows_in clap_on_literals
+unfolding words_of conf_of conf_in rows_in given_to_clap clap_on_literals
 flags_that_are_none = refl
 
 edits : map said (codes "postconf -e a=1 b=" ∷ codes "postconf -c etc a=1 -e" ∷ [])
     ≡ Some (Postconf (record edit { rest = codes "a=1" ∷ codes "b=" ∷ [] }))
     ∷ Some (Postconf (record edit { folder = Some (codes "etc"); rest = codes "a=1" ∷ [] })) ∷ []
-unfolding words_of conf_of conf_in rows_in clap_on_literals settings_of_words setting_of_word
+unfolding words_of conf_of conf_in rows_in given_to_clap clap_on_literals settings_of_words setting_of_word
 edits = refl
 
 no_edits : map said (codes "postconf -e" ∷ codes "postconf -e a" ∷ codes "postconf -e a=1 a=2" ∷ codes "postconf -e a=1 #b=2" ∷ [])
     ≡ None ∷ None ∷ None ∷ None ∷ []
-unfolding words_of conf_of conf_in rows_in clap_on_literals settings_of_words setting_of_word
+unfolding words_of conf_of conf_in rows_in given_to_clap clap_on_literals settings_of_words setting_of_word
 no_edits = refl
 
 edit_or_print : map said (codes "postconf -e -n a=1" ∷ codes "postconf -eh a=1" ∷ codes "postconf -e -x a=1" ∷ codes "postconf -e -o b=1 a=1" ∷ [])
     ≡ None ∷ None ∷ None ∷ None ∷ []
-unfolding words_of conf_of conf_in rows_in clap_on_literals settings_of_words setting_of_word
+unfolding words_of conf_of conf_in rows_in given_to_clap clap_on_literals settings_of_words setting_of_word
 edit_or_print = refl
 
 -- other commands

@@ -1,10 +1,15 @@
 -- The commands as clap is told of them. The commands, and the letters of smtpd, are postgate's own; the letters of postconf are those of
 -- postconf(1). How options are written is clap's reading of the utility syntax guidelines (POSIX.1-2017, Base Definitions, 12.2).
-use Rattle.std.specs.Prelude.{ℕ, true, [], ◌∷◌, Some, codes, fold}
+use Rattle.std.specs.Prelude.{ℕ, true, List, [], ◌∷◌, Some, codes, fold}
 use Rattle.clap.specs.Lexer.{usize_max}
-use Rattle.clap.specs.Words.{App, Rule, Text, new_app, new_rule, with_rule}
 use Rattle.clap.specs.Simple.{on_top}
+use Rattle.clap.specs.Words.{App, Rule, Text, app_of, new_app, new_rule, with_rule}
 use Rattle.clap.specs.declared.builder.action.ArgAction.TheVariants.{Set, SetTrue}
+use Rattle.clap.specs.declared.builder.command.Command.{Command}
+
+-- what clap reads of a command
+unfoldable pub app_in : Command → App
+app_in command = app_of command
 
 -- an option with a value, under its letter
 abbrev pub option_rule : ℕ → Text → Rule
@@ -19,22 +24,46 @@ abbrev pub rest_rule : Text → Rule
 rest_rule id = record (new_rule id) { range = Some (record { start_inclusive = 0; end_inclusive = usize_max }) }
 
 -- a command without flags that ask for help or its version
-abbrev pub bare_app : Text → App
+unfoldable pub bare_app : Text → App
 bare_app name = on_top (λ shape. record shape { disable_help_flag = true; disable_version_flag = true }) (new_app name)
 
--- smtpd [-c folder] -p client -m mail [-l log] [-b budget]
+-- a command with an option more
+unfoldable pub with_option : App → ℕ → Text → App
+with_option app letter id = with_rule app (option_rule letter id)
+
+-- a command with a flag more
+unfoldable pub with_flag : App → ℕ → Text → App
+with_flag app letter id = with_rule app (flag_rule letter id)
+
+-- a command with words that are no options
+unfoldable pub with_rest : App → Text → App
+with_rest app id = with_rule app (rest_rule id)
+
+-- a command with these options more, each a letter and an id
+abbrev pub with_options : App → List (ℕ × Text) → App
+with_options = fold (λ app option. with_option app option.0 option.1)
+
+-- a command with these flags more, each a letter and an id
+abbrev pub with_flags : App → List (ℕ × Text) → App
+with_flags = fold (λ app flag. with_flag app flag.0 flag.1)
+
+-- the options of smtpd: -c, -p, -m, -l and -b
+abbrev pub smtpd_options : List (ℕ × Text)
+smtpd_options = (99, codes "folder") ∷ (112, codes "client") ∷ (109, codes "mail") ∷ (108, codes "log") ∷ (98, codes "budget") ∷ []
+
+-- the flags of postconf: -n, -d, -x, -h, -H and -e
+abbrev pub postconf_flags : List (ℕ × Text)
+postconf_flags = (110, codes "set") ∷ (100, codes "defaults") ∷ (120, codes "expanded") ∷ (104, codes "values") ∷ (72, codes "names")
+    ∷ (101, codes "edit") ∷ []
+
+-- its options: -c and -o
+abbrev pub postconf_options : List (ℕ × Text)
+postconf_options = (99, codes "folder") ∷ (111, codes "over") ∷ []
+
+-- smtpd as clap is told of it
 abbrev pub smtpd_app : App
-smtpd_app = fold with_rule (bare_app (codes "smtpd"))
-    (option_rule 99 (codes "folder") ∷ option_rule 112 (codes "client") ∷ option_rule 109 (codes "mail") ∷ option_rule 108 (codes "log")
-    ∷ option_rule 98 (codes "budget") ∷ [])
+smtpd_app = with_options (bare_app (codes "smtpd")) smtpd_options
 
--- a command with the flags of postconf: -n, -d, -x, -h, -H and -e
-abbrev pub with_flags : App → App
-with_flags app = fold with_rule app
-    (flag_rule 110 (codes "set") ∷ flag_rule 100 (codes "defaults") ∷ flag_rule 120 (codes "expanded") ∷ flag_rule 104 (codes "values")
-    ∷ flag_rule 72 (codes "names") ∷ flag_rule 101 (codes "edit") ∷ [])
-
--- postconf with these flags, [-c folder] [-o over] [rest ..]
+-- postconf as clap is told of it
 abbrev pub postconf_app : App
-postconf_app = fold with_rule (with_flags (bare_app (codes "postconf")))
-    (option_rule 99 (codes "folder") ∷ option_rule 111 (codes "over") ∷ rest_rule (codes "rest") ∷ [])
+postconf_app = with_rest (with_options (with_flags (bare_app (codes "postconf")) postconf_flags) postconf_options) (codes "rest")

@@ -9,8 +9,8 @@ abbrev pub greatest_budget : ℕ
 greatest_budget = 4294967296
 
 -- decimal digits without a leading zero, so none that write 0
-abbrev pub is_counting : List ℕ → Bool
-is_counting text = nat_lt 0 (length text) && not (slice_index text 0 == 48) && list_all is_ascii_digit text
+abbrev pub is_counting_number : List ℕ → Bool
+is_counting_number text = nat_lt 0 (length text) && not (slice_index text 0 == 48) && list_all is_ascii_digit text
 
 -- a number that is at most the greatest budget
 abbrev pub at_most_greatest : ℕ → Option ℕ
@@ -18,4 +18,4 @@ at_most_greatest number = if nat_le number greatest_budget then Some number else
 
 -- the number of decimal digits without sign or leading zero, from 1 to the greatest budget
 unfoldable pub budget_of : List ℕ → Option ℕ
-budget_of text = if is_counting text then at_most_greatest (digits_value 10 text) else None
+budget_of text = if is_counting_number text then at_most_greatest (digits_value 10 text) else None

@@ -28,17 +28,17 @@ shape_in rows =
     else shape.Both)
 
 -- something is said of how to print
-abbrev pub asks_print : List Row → Bool
-asks_print rows =
+abbrev pub has_print_option : List Row → Bool
+has_print_option rows =
     has_flag (codes "set") rows || has_flag (codes "defaults") rows || has_flag (codes "expanded") rows || has_flag (codes "values") rows
     || has_flag (codes "names") rows || is_some (value_in (codes "over") rows)
 
 -- at most one of -n and -d, at most one of -h and -H, and beside -e nothing of how to print
-abbrev pub is_one_question : List Row → Bool
-is_one_question rows =
+abbrev pub options_agree : List Row → Bool
+options_agree rows =
     not (has_flag (codes "set") rows && has_flag (codes "defaults") rows)
     && not (has_flag (codes "values") rows && has_flag (codes "names") rows)
-    && not (has_flag (codes "edit") rows && asks_print rows)
+    && not (has_flag (codes "edit") rows && has_print_option rows)
 
 -- the value of -o sets a parameter
 abbrev pub is_over : Option (List ℕ) → Bool
@@ -68,9 +68,9 @@ is_edit other = false
 abbrev pub sets_parameters : ConfWords → Bool
 sets_parameters conf = is_over conf.over && (if is_edit conf.mode then are_edits conf.rest else true)
 
--- what they say, where they are one question or one edit, and set parameters where they have to
+-- what they say, where the options agree and parameters are set where they have to be
 unfoldable pub conf_in : List Row → Option ConfWords
-conf_in rows = if is_one_question rows && sets_parameters (conf_with rows) then Some (conf_with rows) else None
+conf_in rows = if options_agree rows && sets_parameters (conf_with rows) then Some (conf_with rows) else None
 
 -- what the words of postconf say; none where they are not of its forms
 unfoldable pub conf_of : List (List ℕ) → Option ConfWords

@@ -5,17 +5,17 @@ use Rattle.std.specs.Option.{option_and_then, option_map}
 use Rattle.pf_maincf.specs.Edit.{are_sets, is_set}
 use Rattle.pf_maincf.specs.declared.setting.Setting.{Setting}
 
--- a word parted at a place, which belongs to neither part
-abbrev pub parted : List ℕ → ℕ → Setting
-parted word place = record { line = 0; name = take place word; value = drop (place + 1) word }
+-- the setting of a word that is parted at a place, the byte there left out
+abbrev pub setting_at : List ℕ → ℕ → Setting
+setting_at word place = record { line = 0; name = take place word; value = drop (place + 1) word }
 
 -- a setting, where an edit can write it
 abbrev pub where_set : Setting → Option Setting
 where_set set = if is_set set then Some set else None
 
--- a word is parted at its first equals sign, and its parts are those of a setting that an edit can write
+-- the setting of a word that is parted at its first equals sign, where an edit can write it
 unfoldable pub setting_of_word : List ℕ → Option Setting
-setting_of_word word = option_and_then (λ place. where_set (parted word place)) (position (λ b. b == 61) word)
+setting_of_word word = option_and_then (λ place. where_set (setting_at word place)) (position (λ b. b == 61) word)
 
 -- what each word is, where each is something
 abbrev pub all_of : {A : Type 0} → (List ℕ → Option A) → List (List ℕ) → Option (List A)

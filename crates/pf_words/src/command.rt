@@ -2,7 +2,7 @@
 ghost use Rattle.std.specs.Prelude.{◌≡◌, true, IfOk, map};
 ghost use Rattle.std.specs.Option.{option_map};
 ghost use Rattle.std.specs.String.{string_bytes};
-ghost use Rattle.clap.specs.Words.{app_of, is_simple_and_free, with_rule};
+ghost use Rattle.clap.specs.Words.{is_simple_and_free};
 ghost use Rattle.pf_words.specs.Commands as commands;
 ghost use Rattle.pf_words.specs.Found as found;
 
@@ -13,38 +13,70 @@ use std::alloc::Global;
 
 /// A command without flags that ask for help or its version.
 pub(crate) fn bare_command<'a>(alloc: Global, name: &'a str) -> Command<'a>
-    ensures { app_of result ≡ commands.bare_app name.entry.now }
+    ensures { commands.app_in result ≡ commands.bare_app name.entry.now }
 {
     Command::new(alloc, name)
         .disable_help_flag(true)
         .disable_version_flag(true)
 }
 
-/// The command with an option more, which has a value.
-pub(crate) fn with_option<'a>(
+// The command with an option more, which has a value.
+fn with_option<'a>(
     alloc: Global,
     command: Command<'a>,
     letter: char,
     id: &'a str,
 ) -> Result<Command<'a>, NoMemory>
-    ensures { IfOk result (λ longer. app_of longer ≡ with_rule (app_of command.entry) (commands.option_rule letter id.entry.now)) }
+    ensures { IfOk result (λ longer. commands.app_in longer ≡ commands.with_option (commands.app_in command.entry) letter id.entry.now) }
 {
     let option = Arg::new(alloc, id).short(letter).action(ArgAction::Set);
     let longer = command.arg(option)?;
     Ok(longer)
 }
 
-/// The command with a flag more.
-pub(crate) fn with_flag<'a>(
+// The command with a flag more.
+fn with_flag<'a>(
     alloc: Global,
     command: Command<'a>,
     letter: char,
     id: &'a str,
 ) -> Result<Command<'a>, NoMemory>
-    ensures { IfOk result (λ longer. app_of longer ≡ with_rule (app_of command.entry) (commands.flag_rule letter id.entry.now)) }
+    ensures { IfOk result (λ longer. commands.app_in longer ≡ commands.with_flag (commands.app_in command.entry) letter id.entry.now) }
 {
     let flag = Arg::new(alloc, id).short(letter).action(ArgAction::SetTrue);
     let longer = command.arg(flag)?;
+    Ok(longer)
+}
+
+/// The command with these options more, each a letter and an id.
+pub(crate) fn with_options<'a>(
+    alloc: Global,
+    command: Command<'a>,
+    options: &[(char, &'a str)],
+) -> Result<Command<'a>, NoMemory>
+    ensures { IfOk result (λ longer. commands.app_in longer
+        ≡ commands.with_options (commands.app_in command.entry) (map (λ option. (option.0, option.1.now)) options.now)) }
+{
+    let mut longer = command;
+    for (letter, id) in options {
+        longer = with_option(alloc, longer, *letter, *id)?;
+    }
+    Ok(longer)
+}
+
+/// The command with these flags more, each a letter and an id.
+pub(crate) fn with_flags<'a>(
+    alloc: Global,
+    command: Command<'a>,
+    flags: &[(char, &'a str)],
+) -> Result<Command<'a>, NoMemory>
+    ensures { IfOk result (λ longer. commands.app_in longer
+        ≡ commands.with_flags (commands.app_in command.entry) (map (λ flag. (flag.0, flag.1.now)) flags.now)) }
+{
+    let mut longer = command;
+    for (letter, id) in flags {
+        longer = with_flag(alloc, longer, *letter, *id)?;
+    }
     Ok(longer)
 }
 
@@ -54,7 +86,7 @@ pub(crate) fn with_rest<'a>(
     command: Command<'a>,
     id: &'a str,
 ) -> Result<Command<'a>, NoMemory>
-    ensures { IfOk result (λ longer. app_of longer ≡ with_rule (app_of command.entry) (commands.rest_rule id.entry.now)) }
+    ensures { IfOk result (λ longer. commands.app_in longer ≡ commands.with_rest (commands.app_in command.entry) id.entry.now) }
 {
     let rest = Arg::new(alloc, id).num_args(0..);
     let longer = command.arg(rest)?;
@@ -66,9 +98,9 @@ pub(crate) fn matches_in<'a>(
     command: Command<'a>,
     words: &'a [String],
 ) -> Result<Option<ArgMatches<'a>>, NoMemory>
-    requires { is_simple_and_free (app_of command) ≡ true }
+    requires { is_simple_and_free (commands.app_in command) ≡ true }
     ensures { IfOk result (λ matches. option_map found.rows_found matches
-        ≡ found.rows_in (app_of command.entry) (map string_bytes words.entry.now)) }
+        ≡ found.rows_in (commands.app_in command.entry) (map string_bytes words.entry.now)) }
 {
     match command.try_get_matches_from(words) {
         Ok(matches) => Ok(Some(matches)),
@@ -97,7 +129,7 @@ pub(crate) fn has_flag(matches: &ArgMatches<'_>, id: &str) -> bool
     }
 }
 
-fn copies(alloc: Global, texts: &[&str]) -> Result<List<Bytes>, NoMemory>
+fn copies_of(alloc: Global, texts: &[&str]) -> Result<List<Bytes>, NoMemory>
     ensures { IfOk result (λ copies. copies ≡ map (λ text. text.now) texts.now) }
 {
     let mut copies = List::new(alloc);
@@ -114,12 +146,12 @@ pub(crate) fn rest_in(alloc: Global, matches: &ArgMatches<'_>) -> Result<List<By
 {
     match matches.get_raw("rest") {
         None => Ok(List::new(alloc)),
-        Some(words) => copies(alloc, words),
+        Some(words) => copies_of(alloc, words),
     }
 }
 
 /// A copy of a text, where there is one.
-pub(crate) fn copied(alloc: Global, text: Option<&str>) -> Result<Option<Bytes>, NoMemory>
+pub(crate) fn copy_of(alloc: Global, text: Option<&str>) -> Result<Option<Bytes>, NoMemory>
     ensures { IfOk result (λ copy. copy ≡ option_map (λ t. t.now) text.entry) }
 {
     match text {

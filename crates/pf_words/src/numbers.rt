@@ -14,8 +14,8 @@ fn has_digits(text: &[u8]) -> bool
 }
 
 // Whether a text is decimal digits without a leading zero.
-fn is_counting(text: &[u8]) -> bool
-    ensures { result ≡ numbers.is_counting text.now }
+fn is_counting_number(text: &[u8]) -> bool
+    ensures { result ≡ numbers.is_counting_number text.now }
 {
     0 < text.len() && text[0] != b'0' && has_digits(text)
 }
@@ -35,7 +35,7 @@ fn at_most_greatest(number: u64) -> Option<u64>
 pub(crate) fn budget_of(text: &str) -> Option<u64>
     ensures { result ≡ numbers.budget_of text.now }
 {
-    if !is_counting(text.as_bytes()) {
+    if !is_counting_number(text.as_bytes()) {
         return None;
     }
     match text.parse::<u64>() {

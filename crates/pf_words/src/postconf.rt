@@ -2,13 +2,12 @@
 //! `postconf -e [-c folder] name=value ..`.
 ghost use Rattle.std.specs.Prelude.{◌≡◌, true, IfOk, IfSome, map};
 ghost use Rattle.std.specs.String.{string_bytes};
-ghost use Rattle.clap.specs.Words.{app_of};
 ghost use Rattle.pf_words.specs.Commands as commands;
 ghost use Rattle.pf_words.specs.Found.{rows_found};
 ghost use Rattle.pf_words.specs.Postconf as postconf;
 
 use crate::command::{
-    bare_command, copied, has_flag, matches_in, rest_in, value_in, with_flag, with_option,
+    bare_command, copy_of, has_flag, matches_in, rest_in, value_in, with_flags, with_options,
     with_rest,
 };
 use crate::sets::{setting_of_word, settings_of_words};
@@ -46,26 +45,23 @@ pub struct ConfWords {
     pub rest: List<Bytes>,
 }
 
-fn with_flags<'a>(alloc: Global, command: Command<'a>) -> Result<Command<'a>, NoMemory>
-    ensures { IfOk result (λ longer. app_of longer ≡ commands.with_flags (app_of command.entry)) }
-{
-    let command = with_flag(alloc, command, 'n', "set")?;
-    let command = with_flag(alloc, command, 'd', "defaults")?;
-    let command = with_flag(alloc, command, 'x', "expanded")?;
-    let command = with_flag(alloc, command, 'h', "values")?;
-    let command = with_flag(alloc, command, 'H', "names")?;
-    let command = with_flag(alloc, command, 'e', "edit")?;
-    Ok(command)
-}
-
 fn postconf_command<'a>(alloc: Global) -> Result<Command<'a>, NoMemory>
-    ensures { IfOk result (λ command. app_of command ≡ commands.postconf_app) }
+    ensures { IfOk result (λ command. commands.app_in command ≡ commands.postconf_app) }
 {
-    let command = with_flags(alloc, bare_command(alloc, "postconf"))?;
-    let command = with_option(alloc, command, 'c', "folder")?;
-    let command = with_option(alloc, command, 'o', "over")?;
-    let command = with_rest(alloc, command, "rest")?;
-    Ok(command)
+    let command = with_flags(
+        alloc,
+        bare_command(alloc, "postconf"),
+        &[
+            ('n', "set"),
+            ('d', "defaults"),
+            ('x', "expanded"),
+            ('h', "values"),
+            ('H', "names"),
+            ('e', "edit"),
+        ],
+    )?;
+    let command = with_options(alloc, command, &[('c', "folder"), ('o', "over")])?;
+    with_rest(alloc, command, "rest")
 }
 
 fn mode_in(matches: &ArgMatches<'_>) -> ConfMode
@@ -95,8 +91,8 @@ fn shape_in(matches: &ArgMatches<'_>) -> Shape
 }
 
 // Whether something is said of how to print.
-fn asks_print(matches: &ArgMatches<'_>) -> bool
-    ensures { result ≡ postconf.asks_print (rows_found matches.now) }
+fn has_print_option(matches: &ArgMatches<'_>) -> bool
+    ensures { result ≡ postconf.has_print_option (rows_found matches.now) }
 {
     has_flag(matches, "set")
         || has_flag(matches, "defaults")
@@ -107,12 +103,12 @@ fn asks_print(matches: &ArgMatches<'_>) -> bool
 }
 
 // Whether no two options stand beside each other that do not go together.
-fn is_one_question(matches: &ArgMatches<'_>) -> bool
-    ensures { result ≡ postconf.is_one_question (rows_found matches.now) }
+fn options_agree(matches: &ArgMatches<'_>) -> bool
+    ensures { result ≡ postconf.options_agree (rows_found matches.now) }
 {
     !(has_flag(matches, "set") && has_flag(matches, "defaults"))
         && !(has_flag(matches, "values") && has_flag(matches, "names"))
-        && !(has_flag(matches, "edit") && asks_print(matches))
+        && !(has_flag(matches, "edit") && has_print_option(matches))
 }
 
 // Whether the value of `-o`, if there is one, sets a parameter.
@@ -159,8 +155,8 @@ fn conf_with(alloc: Global, matches: &ArgMatches<'_>) -> Result<ConfWords, NoMem
         mode: mode_in(matches),
         expanded: has_flag(matches, "expanded"),
         shape: shape_in(matches),
-        folder: copied(alloc, value_in(matches, "folder"))?,
-        over: copied(alloc, value_in(matches, "over"))?,
+        folder: copy_of(alloc, value_in(matches, "folder"))?,
+        over: copy_of(alloc, value_in(matches, "over"))?,
         rest: rest_in(alloc, matches)?,
     })
 }
@@ -170,7 +166,7 @@ fn conf_in(alloc: Global, matches: &ArgMatches<'_>) -> Result<Option<ConfWords>,
     ensures is { IfOk result (λ conf. conf ≡ postconf.conf_in (rows_found matches.now)) }
     ensures sets { IfOk result (λ conf. IfSome conf (λ words. postconf.sets_parameters words ≡ true)) }
 {
-    if !is_one_question(matches) {
+    if !options_agree(matches) {
         return Ok(None);
     }
     let conf = conf_with(alloc, matches)?;

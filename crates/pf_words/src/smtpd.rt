@@ -1,14 +1,13 @@
 //! The words of smtpd: `smtpd [-c folder] -p client -m mail [-l log] [-b budget]`.
 ghost use Rattle.std.specs.Prelude.{◌≡◌, IfOk, map, option_map};
 ghost use Rattle.std.specs.String.{string_bytes};
-ghost use Rattle.clap.specs.Words.{app_of};
 ghost use Rattle.pf_words.specs.Commands as commands;
 ghost use Rattle.pf_words.specs.Found.{rows_found};
 ghost use Rattle.pf_words.specs.OptionsMeant.{options_meant};
 ghost use Rattle.pf_words.specs.Smtpd as smtpd;
 
 use crate::address::ipv4_of;
-use crate::command::{bare_command, copied, matches_in, value_in, with_option};
+use crate::command::{bare_command, copy_of, matches_in, value_in, with_options};
 use crate::numbers::{GREATEST_BUDGET, budget_of};
 use clap::{ArgMatches, Command};
 use pf_base::{Bytes, NoMemory};
@@ -36,15 +35,19 @@ pub(crate) struct Options<'a> {
 }
 
 fn smtpd_command<'a>(alloc: Global) -> Result<Command<'a>, NoMemory>
-    ensures { IfOk result (λ command. app_of command ≡ commands.smtpd_app) }
+    ensures { IfOk result (λ command. commands.app_in command ≡ commands.smtpd_app) }
 {
-    let command = bare_command(alloc, "smtpd");
-    let command = with_option(alloc, command, 'c', "folder")?;
-    let command = with_option(alloc, command, 'p', "client")?;
-    let command = with_option(alloc, command, 'm', "mail")?;
-    let command = with_option(alloc, command, 'l', "log")?;
-    let command = with_option(alloc, command, 'b', "budget")?;
-    Ok(command)
+    with_options(
+        alloc,
+        bare_command(alloc, "smtpd"),
+        &[
+            ('c', "folder"),
+            ('p', "client"),
+            ('m', "mail"),
+            ('l', "log"),
+            ('b', "budget"),
+        ],
+    )
 }
 
 fn budget_in(text: Option<&str>) -> Option<u64>
@@ -89,14 +92,14 @@ pub(crate) fn smtpd_options<'a>(
 }
 
 // The options with copies of the names.
-fn copied_options(alloc: Global, options: &Options<'_>) -> Result<SmtpdWords, NoMemory>
+fn owned_words(alloc: Global, options: &Options<'_>) -> Result<SmtpdWords, NoMemory>
     ensures { IfOk result (λ words. words ≡ options_meant options.now) }
 {
     Ok(SmtpdWords {
-        folder: copied(alloc, options.folder)?,
+        folder: copy_of(alloc, options.folder)?,
         client: options.client,
         mail: Bytes::from_slice(alloc, options.mail.as_bytes())?,
-        log: copied(alloc, options.log)?,
+        log: copy_of(alloc, options.log)?,
         budget: options.budget,
     })
 }
@@ -107,6 +110,6 @@ pub(crate) fn smtpd_words(alloc: Global, words: &[String]) -> Result<Option<Smtp
 {
     match smtpd_options(alloc, words)? {
         None => Ok(None),
-        Some(options) => Ok(Some(copied_options(alloc, &options)?)),
+        Some(options) => Ok(Some(owned_words(alloc, &options)?)),
     }
 }

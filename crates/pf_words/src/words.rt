@@ -1,5 +1,5 @@
 //! The words of a command line, without the program's own name.
-ghost use Rattle.std.specs.Prelude.{◌≡◌, codes, IfOk, IfSome, map, option_map};
+ghost use Rattle.std.specs.Prelude.{◌≡◌, IfOk, IfSome, map, option_map};
 ghost use Rattle.std.specs.String.{string_bytes};
 ghost use Rattle.pf_words.specs.Words as spec;
 
@@ -13,6 +13,13 @@ use std::alloc::Global;
 pub enum Words {
     Smtpd(SmtpdWords),
     Postconf(ConfWords),
+}
+
+/// The names of the files that a command gives to its record of messages and its log.
+#[derive(Clone, Copy, Debug, PartialEq, Eq)]
+pub struct SinkNames<'a> {
+    pub mail: Option<&'a str>,
+    pub log: Option<&'a str>,
 }
 
 // Whether the first word is this name.
@@ -48,13 +55,6 @@ pub fn words_of(alloc: Global, words: &[String]) -> Result<Option<Words>, NoMemo
     } else {
         Ok(None)
     }
-}
-
-/// The names of the files that a command gives to its record of messages and its log.
-#[derive(Clone, Copy, Debug, PartialEq, Eq)]
-pub struct SinkNames<'a> {
-    pub mail: Option<&'a str>,
-    pub log: Option<&'a str>,
 }
 
 /// The values of `-m` and `-l` where the words are a well-formed smtpd command, else none.
