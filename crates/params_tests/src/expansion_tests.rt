@@ -1,6 +1,5 @@
-use crate::support::settings_of;
-use pf_base::{Bytes, Cause, ConfFault, NoMemory, decimal};
-use pf_params::Settings;
+use crate::support::{Question, asked};
+use pf_base::{Bytes, NoMemory, decimal};
 use std::alloc::Global;
 use std::env;
 use std::test::Fail;
@@ -48,55 +47,58 @@ const VALUES: &[(&str, &str)] = &[
 ];
 
 // A text that has no value, and why.
-const FLAWS: &[(&str, Cause)] = &[
-    ("$", Cause::C5),
-    ("a$ b", Cause::C5),
-    ("$-", Cause::C5),
-    ("${", Cause::C5),
-    ("${x", Cause::C5),
-    ("${}", Cause::C5),
-    ("${ }", Cause::C5),
-    ("${x-}", Cause::C5),
-    ("${x y}", Cause::C5),
-    ("$(x", Cause::C5),
-    ("$()", Cause::C5),
-    ("$(x?a)", Cause::C5),
-    ("${x?{a}b}", Cause::C5),
-    ("${x?{a}:b}", Cause::C5),
-    ("${x?{a}:}", Cause::C5),
-    ("${x:{a}b}", Cause::C5),
-    ("${x:{a}:{b}}", Cause::C5),
-    ("${?a}", Cause::C5),
-    ("${e?$}", Cause::C5),
-    ("${x?{a}:{$}}", Cause::C5),
-    ("$a", Cause::C4),
-    ("${a?x}", Cause::C4),
-    ("${e?$a}${a:x}", Cause::C4),
-    ("$a$", Cause::C5),
+const FLAWS: &[(&str, &str)] = &[
+    ("$", "C5"),
+    ("a$ b", "C5"),
+    ("$-", "C5"),
+    ("${", "C5"),
+    ("${x", "C5"),
+    ("${}", "C5"),
+    ("${ }", "C5"),
+    ("${x-}", "C5"),
+    ("${x y}", "C5"),
+    ("$(x", "C5"),
+    ("$()", "C5"),
+    ("$(x?a)", "C5"),
+    ("${x?{a}b}", "C5"),
+    ("${x?{a}:b}", "C5"),
+    ("${x?{a}:}", "C5"),
+    ("${x:{a}b}", "C5"),
+    ("${x:{a}:{b}}", "C5"),
+    ("${?a}", "C5"),
+    ("${e?$}", "C5"),
+    ("${x?{a}:{$}}", "C5"),
+    ("$a", "C4"),
+    ("${a?x}", "C4"),
+    ("${e?$a}${a:x}", "C4"),
+    ("$a$", "C5"),
 ];
 
-// Why a text has no value.
-fn flaw(alloc: Global, settings: &Settings, text: &[u8]) -> Option<Cause> {
-    match settings.expand(alloc, text) {
-        Ok(_) => None,
-        Err(ConfFault::Refused(refused)) => Some(refused.cause),
-        Err(ConfFault::NoMemory) => None,
+// The line of the refusal of a text.
+fn flaw_line(code: &str) -> &'static [u8] {
+    match code.as_bytes() {
+        b"C4" => b"postgate: main.cf:0: C4 expansion too deep\n",
+        b"C5" => b"postgate: main.cf:0: C5 bad dollar form\n",
+        _ => b"postgate: main.cf:0: C16 expansion too long\n",
     }
 }
 
 #[test]
 fn texts_have_their_values(rt: HostRuntime) -> Result<(), Fail> {
     let alloc = rt.alloc();
-    let settings = settings_of(alloc, CONF)?;
-    assert_eq!(rt; settings.file().as_slice(), b"main.cf".as_slice());
     for (text, value) in VALUES {
-        match settings.expand(alloc, text.as_bytes()) {
-            Ok(bytes) => assert_eq!(rt; bytes.as_slice(), value.as_bytes()),
-            Err(_) => assert!(rt; false, "the value of {text}"),
-        }
+        let seen = asked(alloc, CONF, Question::Text(text.as_bytes()))?;
+        assert_eq!(rt; seen.as_slice(), value.as_bytes(), "{text}");
     }
-    for (text, cause) in FLAWS {
-        assert_eq!(rt; flaw(alloc, &settings, text.as_bytes()), Some(*cause));
+    Ok(())
+}
+
+#[test]
+fn texts_without_a_value_are_refused(rt: HostRuntime) -> Result<(), Fail> {
+    let alloc = rt.alloc();
+    for (text, code) in FLAWS {
+        let seen = asked(alloc, CONF, Question::Text(text.as_bytes()))?;
+        assert_eq!(rt; seen.as_slice(), flaw_line(code), "{text}");
     }
     Ok(())
 }
@@ -121,61 +123,46 @@ fn chain(alloc: Global, first: &[u8], count: u64) -> Result<Bytes, NoMemory> {
     Ok(text)
 }
 
-// How long the value of a text is where so many names double; why there is none.
-fn doubled(
-    alloc: Global,
-    first: &[u8],
-    count: u64,
-    text: &[u8],
-) -> Result<Result<u64, Option<Cause>>, NoMemory> {
-    let conf = chain(alloc, first, count)?;
-    let settings = settings_of(alloc, conf.as_slice())?;
-    match settings.expand(alloc, text) {
-        Ok(value) => Ok(Ok(value.len())),
-        Err(_) => Ok(Err(flaw(alloc, &settings, text))),
+// How long the value of a text is, or the refusal of it, where so many names double.
+fn doubled(alloc: Global, first: &str, count: u64, text: &str) -> Result<Bytes, NoMemory> {
+    let conf = chain(alloc, first.as_bytes(), count)?;
+    asked(alloc, conf.as_slice(), Question::Text(text.as_bytes()))
+}
+
+// The value of a1, how many names double it, a text, and the length of its value.
+const LENGTHS: &[(&str, u64, &str, u64)] = &[
+    ("x", 21, "$a21", 1_048_576),
+    ("x", 21, "${a21?y}", 1),
+    ("", 99, "$a99", 0),
+    ("", 100, "$a100", 0),
+];
+
+// And a text without a value.
+const LIMITS: &[(&str, u64, &str, &str)] = &[
+    ("x", 21, "$a21.", "C16"),
+    ("x", 22, "${a22?y}", "C16"),
+    ("x", 100, "$a100", "C16"),
+    ("x", 101, "$a101", "C4"),
+    ("", 101, "$a101", "C4"),
+    ("", 101, "${a101?y}", "C4"),
+];
+
+#[test]
+fn values_have_their_lengths(rt: HostRuntime) -> Result<(), Fail> {
+    let alloc = rt.alloc();
+    for (first, count, text, length) in LENGTHS {
+        let seen = doubled(alloc, first, *count, text)?;
+        assert_eq!(rt; seen.len(), *length, "{text}");
     }
+    Ok(())
 }
 
 #[test]
 fn depth_and_length_have_their_limits(rt: HostRuntime) -> Result<(), Fail> {
     let alloc = rt.alloc();
-    for (first, count, text, end) in [
-        (b"x".as_slice(), 21, b"$a21".as_slice(), Ok(1_048_576)),
-        (
-            b"x".as_slice(),
-            21,
-            b"$a21.".as_slice(),
-            Err(Some(Cause::C16)),
-        ),
-        (b"x".as_slice(), 21, b"${a21?y}".as_slice(), Ok(1)),
-        (
-            b"x".as_slice(),
-            22,
-            b"${a22?y}".as_slice(),
-            Err(Some(Cause::C16)),
-        ),
-        (
-            b"x".as_slice(),
-            100,
-            b"$a100".as_slice(),
-            Err(Some(Cause::C16)),
-        ),
-        (
-            b"x".as_slice(),
-            101,
-            b"$a101".as_slice(),
-            Err(Some(Cause::C4)),
-        ),
-        (b"".as_slice(), 99, b"$a99".as_slice(), Ok(0)),
-        (b"".as_slice(), 100, b"$a100".as_slice(), Ok(0)),
-        (
-            b"".as_slice(),
-            101,
-            b"$a101".as_slice(),
-            Err(Some(Cause::C4)),
-        ),
-    ] {
-        assert!(rt; doubled(alloc, first, count, text)? == end, "{count} names");
+    for (first, count, text, code) in LIMITS {
+        let seen = doubled(alloc, first, *count, text)?;
+        assert_eq!(rt; seen.as_slice(), flaw_line(code), "{text}");
     }
     Ok(())
 }
@@ -198,32 +185,24 @@ fn many(alloc: Global, count: u64) -> Result<Bytes, NoMemory> {
 }
 
 // The lengths of their values, summed.
-fn length_of_many(alloc: Global, count: u64) -> Result<u64, NoMemory> {
+fn length_of_many(alloc: Global, count: u64) -> Result<Bytes, NoMemory> {
     let conf = many(alloc, count)?;
-    let settings = settings_of(alloc, conf.as_slice())?;
-    let mut length: u64 = 0;
-    for n in 0..count {
-        let number = decimal(alloc, n)?;
-        let mut text = Bytes::from_slice(alloc, b"$s")?;
-        text.extend(number.as_bytes())?;
-        match settings.expand(alloc, text.as_slice()) {
-            Ok(value) => length = length.saturating_add(value.len()),
-            Err(_) => return Err(NoMemory),
-        }
-    }
-    Ok(length)
+    asked(alloc, conf.as_slice(), Question::Many(count))
 }
 
-// bench/expansion.py asks for more of them by the variable SETTINGS.
-#[test]
-fn many_settings_have_their_values(rt: HostRuntime) -> Result<(), Fail> {
-    let count = match env::var(&rt, "SETTINGS") {
+// How many there are: bench/expansion.py asks for more of them by the variable SETTINGS.
+fn asked_count(rt: &HostRuntime) -> u64 {
+    match env::var(rt, "SETTINGS") {
         Ok(text) => text.as_str().parse::<u64>().unwrap_or(100),
         Err(_) => 100,
-    };
-    assert_eq!(rt;
-        length_of_many(rt.alloc(), count)?,
-        count.saturating_mul(29)
-    );
+    }
+}
+
+#[test]
+fn many_settings_have_their_values(rt: HostRuntime) -> Result<(), Fail> {
+    let count = asked_count(&rt);
+    let seen = length_of_many(rt.alloc(), count)?;
+    let length = decimal(rt.alloc(), count.saturating_mul(29))?;
+    assert_eq!(rt; seen.as_slice(), length.as_bytes());
     Ok(())
 }

@@ -1,8 +1,5 @@
-use crate::support::{settings_of, settings_or_line, settings_with};
-use pf_base::{Bytes, List, NoMemory, Specs, TableId, decimal};
-use pf_catalogue::{Kind, PARAMS, Param, kind_of, param, param_at, param_name, param_place};
-use pf_params::Settings;
-use std::alloc::Global;
+use crate::support::{Question, asked, asked_with};
+use pf_catalogue::{PARAMS, param_at, param_name, param_place};
 use std::test::Fail;
 
 // The parameters, each with the line that would set its default, by their kinds.
@@ -185,248 +182,6 @@ const DEFAULTS: &[(&str, &str)] = &[
     (
         "parent_domain_matches_subdomains",
         "parent_domain_matches_subdomains = ",
-    ),
-];
-
-// A main.cf, and `ok` or the line of its refusal.
-const REFUSALS: &[(&str, &str)] = &[
-    ("", "ok"),
-    (
-        "a = $b\nb = $a\nrelay_domains = $a",
-        "postgate: main.cf:3: C4 expansion too deep: relay_domains\n",
-    ),
-    ("a = $b\nb = $a", "ok"),
-    ("nosuch = $", "ok"),
-    (
-        "mail_name = $",
-        "postgate: main.cf:1: C5 bad dollar form: mail_name\n",
-    ),
-    (
-        "x = $(\nmail_name = $x",
-        "postgate: main.cf:2: C5 bad dollar form: mail_name\n",
-    ),
-    (
-        "mail_name = $mail_name",
-        "postgate: main.cf:1: C4 expansion too deep: mail_name\n",
-    ),
-    (
-        "mail_name = $",
-        "postgate: main.cf:1: C5 bad dollar form: mail_name\n",
-    ),
-    (
-        "mail_name = x\nmail_name = $\nmyorigin = /x",
-        "postgate: main.cf:2: C5 bad dollar form: mail_name\n",
-    ),
-    ("mail_name = $\nmail_name = x", "ok"),
-    (
-        "myhostname = $mydomain",
-        "postgate: main.cf:0: C4 expansion too deep: mydestination\n",
-    ),
-    (
-        "mydestination = a\nmyhostname = $mydomain",
-        "postgate: main.cf:0: C4 expansion too deep: mydomain\n",
-    ),
-    (
-        "mydomain = $x\nx = $",
-        "postgate: main.cf:0: C5 bad dollar form: mydestination\n",
-    ),
-    (
-        "mydestination = a\nmydomain = $x\nx = $",
-        "postgate: main.cf:2: C5 bad dollar form: mydomain\n",
-    ),
-    (
-        "myorigin = /etc/mailname",
-        "postgate: main.cf:1: C6 bad value: myorigin\n",
-    ),
-    (
-        "myorigin = $x\nx = /etc",
-        "postgate: main.cf:1: C6 bad value: myorigin\n",
-    ),
-    (
-        "line_length_limit = 99",
-        "postgate: main.cf:1: C6 bad value: line_length_limit\n",
-    ),
-    ("line_length_limit = 100", "ok"),
-    ("line_length_limit = 1000000", "ok"),
-    (
-        "line_length_limit = 1000001",
-        "postgate: main.cf:1: C6 bad value: line_length_limit\n",
-    ),
-    ("line_length_limit = 0000000000000000000000000000100", "ok"),
-    (
-        "line_length_limit = 99999999999999999999999999999999",
-        "postgate: main.cf:1: C6 bad value: line_length_limit\n",
-    ),
-    (
-        "line_length_limit =",
-        "postgate: main.cf:1: C6 bad value: line_length_limit\n",
-    ),
-    (
-        "line_length_limit = 2 048",
-        "postgate: main.cf:1: C6 bad value: line_length_limit\n",
-    ),
-    (
-        "line_length_limit = -1",
-        "postgate: main.cf:1: C6 bad value: line_length_limit\n",
-    ),
-    (
-        "line_length_limit = 1k",
-        "postgate: main.cf:1: C6 bad value: line_length_limit\n",
-    ),
-    ("message_size_limit = 0", "ok"),
-    ("message_size_limit = 2147483647", "ok"),
-    (
-        "message_size_limit = 2147483648",
-        "postgate: main.cf:1: C6 bad value: message_size_limit\n",
-    ),
-    (
-        "smtpd_hard_error_limit = 0",
-        "postgate: main.cf:1: C6 bad value: smtpd_hard_error_limit\n",
-    ),
-    (
-        "smtpd_policy_service_try_limit = 101",
-        "postgate: main.cf:1: C6 bad value: smtpd_policy_service_try_limit\n",
-    ),
-    (
-        "reject_code = 399",
-        "postgate: main.cf:1: C6 bad value: reject_code\n",
-    ),
-    ("reject_code = 400", "ok"),
-    ("reject_code = 599", "ok"),
-    (
-        "reject_code = 600",
-        "postgate: main.cf:1: C6 bad value: reject_code\n",
-    ),
-    ("swap_bangpath = YES", "ok"),
-    ("swap_bangpath = nO", "ok"),
-    (
-        "swap_bangpath = true",
-        "postgate: main.cf:1: C6 bad value: swap_bangpath\n",
-    ),
-    (
-        "swap_bangpath = yes no",
-        "postgate: main.cf:1: C6 bad value: swap_bangpath\n",
-    ),
-    ("alias_maps = texthash:a, nosuch:b c", "ok"),
-    (
-        "alias_maps = texthash:a, /b",
-        "postgate: main.cf:1: C6 bad value: alias_maps\n",
-    ),
-    (
-        "alias_maps = inline:{a=b",
-        "postgate: main.cf:1: C6 bad value: alias_maps\n",
-    ),
-    (
-        "alias_maps = inline:{a=b}}",
-        "postgate: main.cf:1: C6 bad value: alias_maps\n",
-    ),
-    ("relay_domains = any thing, /file !x, .y", "ok"),
-    (
-        "relay_domains = {",
-        "postgate: main.cf:1: C6 bad value: relay_domains\n",
-    ),
-    (
-        "smtpd_client_restrictions = }",
-        "postgate: main.cf:1: C6 bad value: smtpd_client_restrictions\n",
-    ),
-    ("smtpd_client_restrictions = any word", "ok"),
-    ("canonical_classes = envelope_sender header_recipient", "ok"),
-    (
-        "canonical_classes = envelope_sender, all",
-        "postgate: main.cf:1: C6 bad value: canonical_classes\n",
-    ),
-    (
-        "canonical_classes = Envelope_sender",
-        "postgate: main.cf:1: C6 bad value: canonical_classes\n",
-    ),
-    (
-        "propagate_unmatched_extensions = alias forward include generic",
-        "ok",
-    ),
-    (
-        "propagate_unmatched_extensions = canonical, none",
-        "postgate: main.cf:1: C6 bad value: propagate_unmatched_extensions\n",
-    ),
-    ("propagate_unmatched_extensions =", "ok"),
-    (
-        "local_header_rewrite_clients = Permit_MyNetworks, check_address_map cidr:n permit_sasl_authenticated",
-        "ok",
-    ),
-    (
-        "local_header_rewrite_clients = check_address_map",
-        "postgate: main.cf:1: C6 bad value: local_header_rewrite_clients\n",
-    ),
-    (
-        "local_header_rewrite_clients = permit",
-        "postgate: main.cf:1: C6 bad value: local_header_rewrite_clients\n",
-    ),
-    (
-        "masquerade_domains = {a} }",
-        "postgate: main.cf:1: C6 bad value: masquerade_domains\n",
-    ),
-    ("smtpd_delay_reject = yes", "ok"),
-    (
-        "smtpd_delay_reject = Yes",
-        "postgate: main.cf:1: C14 setting outside the profile: smtpd_delay_reject\n",
-    ),
-    (
-        "smtpd_delay_reject = no",
-        "postgate: main.cf:1: C14 setting outside the profile: smtpd_delay_reject\n",
-    ),
-    ("smtpd_delay_reject = $swap_bangpath", "ok"),
-    (
-        "resolve_dequoted_address =",
-        "postgate: main.cf:1: C14 setting outside the profile: resolve_dequoted_address\n",
-    ),
-    (
-        "parent_domain_matches_subdomains =",
-        "postgate: main.cf:1: C14 setting outside the profile: parent_domain_matches_subdomains\n",
-    ),
-    (
-        "parent_domain_matches_subdomains = $",
-        "postgate: main.cf:1: C5 bad dollar form: parent_domain_matches_subdomains\n",
-    ),
-    (
-        "swap_bangpath = x\nalias_maps = /a",
-        "postgate: main.cf:2: C6 bad value: alias_maps\n",
-    ),
-    (
-        "smtpd_restriction_classes = b, a\nb = {",
-        "postgate: main.cf:2: C6 bad value: b\n",
-    ),
-    (
-        "smtpd_restriction_classes = b, a\nb = {\na = $",
-        "postgate: main.cf:3: C5 bad dollar form: a\n",
-    ),
-    (
-        "smtpd_restriction_classes = z\nz = {\nswap_bangpath = x",
-        "postgate: main.cf:3: C6 bad value: swap_bangpath\n",
-    ),
-    (
-        "smtpd_restriction_classes = n\nn = }\nswap_bangpath = x",
-        "postgate: main.cf:2: C6 bad value: n\n",
-    ),
-    (
-        "smtpd_restriction_classes = {a\na = {",
-        "postgate: main.cf:1: C6 bad value: smtpd_restriction_classes\n",
-    ),
-    (
-        "smtpd_restriction_classes = $\na = {",
-        "postgate: main.cf:1: C5 bad dollar form: smtpd_restriction_classes\n",
-    ),
-    ("a = {", "ok"),
-    ("smtpd_restriction_classes = a, a", "ok"),
-    (
-        "smtpd_restriction_classes = permit\npermit = {",
-        "postgate: main.cf:2: C6 bad value: permit\n",
-    ),
-    (
-        "smtpd_restriction_classes = mail_name\nmail_name = {",
-        "postgate: main.cf:2: C6 bad value: mail_name\n",
-    ),
-    (
-        "A = {\nsmtpd_restriction_classes = A\naccess_map_defer_code = 1",
-        "postgate: main.cf:1: C6 bad value: A\n",
     ),
 ];
 
@@ -622,29 +377,13 @@ const SPECS: &[(&str, &str)] = &[
     ),
 ];
 
-// The name, the default and the line of a parameter that is not set.
-fn default_of(alloc: Global, settings: &Settings, name: &[u8]) -> Result<Bytes, NoMemory> {
-    let mut printed = Bytes::new(alloc);
-    let Some(p) = param(name) else {
-        return Ok(printed);
-    };
-    printed.extend(param_name(p))?;
-    printed.extend(b" = ")?;
-    printed.extend(settings.raw(p).as_slice())?;
-    if settings.line(p) > 0 {
-        printed.push(b'!')?;
-    }
-    Ok(printed)
-}
-
 #[test]
 fn each_parameter_has_its_default(rt: HostRuntime) -> Result<(), Fail> {
     let alloc = rt.alloc();
-    let settings = settings_of(alloc, b"")?;
     assert_eq!(rt; DEFAULTS.len() as u64, u64::from(PARAMS));
-    for (name, line) in DEFAULTS {
-        let seen = default_of(alloc, &settings, name.as_bytes())?;
-        assert_eq!(rt; seen.as_slice(), line.as_bytes(), "{name}");
+    for (name, end) in DEFAULTS {
+        let seen = asked(alloc, b"", Question::Default(name.as_bytes()))?;
+        assert_eq!(rt; seen.as_slice(), end.as_bytes(), "{name}");
     }
     Ok(())
 }
@@ -660,118 +399,11 @@ fn names_are_in_byte_order(rt: HostRuntime) -> Result<(), Fail> {
     Ok(())
 }
 
-// `ok`, or the line of a refusal.
-fn outcome(alloc: Global, text: &[u8]) -> Result<Bytes, NoMemory> {
-    match settings_or_line(alloc, text)? {
-        Ok(_) => Bytes::from_slice(alloc, b"ok"),
-        Err(line) => Ok(line),
-    }
-}
-
-#[test]
-fn each_main_cf_is_refused_or_not(rt: HostRuntime) -> Result<(), Fail> {
-    let alloc = rt.alloc();
-    for (text, end) in REFUSALS {
-        let seen = outcome(alloc, text.as_bytes())?;
-        assert_eq!(rt; seen.as_slice(), end.as_bytes(), "{text}");
-    }
-    Ok(())
-}
-
-// Items, each in angle brackets.
-fn add_items(printed: &mut Bytes, items: &List<Bytes>) -> Result<(), NoMemory> {
-    for item in items.as_slice() {
-        printed.extend_all(&[b"<", item.as_slice(), b">"])?;
-    }
-    Ok(())
-}
-
-fn number_text(alloc: Global, number: u64) -> Result<Bytes, NoMemory> {
-    let digits = decimal(alloc, number)?;
-    Bytes::from_slice(alloc, digits.as_bytes())
-}
-
-fn items_text(alloc: Global, items: &List<Bytes>) -> Result<Bytes, NoMemory> {
-    let mut printed = Bytes::new(alloc);
-    add_items(&mut printed, items)?;
-    Ok(printed)
-}
-
-fn yes_text(alloc: Global, yes: bool) -> Result<Bytes, NoMemory> {
-    Bytes::from_slice(
-        alloc,
-        if yes {
-            b"yes".as_slice()
-        } else {
-            b"no".as_slice()
-        },
-    )
-}
-
-// What the value of a parameter says.
-fn said(alloc: Global, settings: &Settings, p: Param) -> Result<Bytes, NoMemory> {
-    match kind_of(p) {
-        Kind::Number { .. } => number_text(alloc, settings.number(p)),
-        Kind::Code => number_text(alloc, settings.number(p)),
-        Kind::Yes => yes_text(alloc, settings.yes(p)),
-        Kind::Maps => items_text(alloc, settings.items(p)),
-        Kind::Domains => items_text(alloc, settings.items(p)),
-        Kind::Networks => items_text(alloc, settings.items(p)),
-        Kind::Hosts => items_text(alloc, settings.items(p)),
-        Kind::Restrictions => items_text(alloc, settings.items(p)),
-        Kind::AddressKinds => items_text(alloc, settings.items(p)),
-        Kind::Extensions => items_text(alloc, settings.items(p)),
-        Kind::Interfaces => items_text(alloc, settings.items(p)),
-        Kind::RewriteClients => items_text(alloc, settings.items(p)),
-        Kind::Names => items_text(alloc, settings.items(p)),
-        Kind::Text => Bytes::from_slice(alloc, b"text"),
-        Kind::Origin => Bytes::from_slice(alloc, b"text"),
-        Kind::FixedYes => Bytes::from_slice(alloc, b"text"),
-        Kind::Unset => Bytes::from_slice(alloc, b"text"),
-    }
-}
-
-fn said_by(alloc: Global, text: &[u8], name: &[u8]) -> Result<Bytes, NoMemory> {
-    let settings = settings_of(alloc, text)?;
-    match param(name) {
-        Some(p) => said(alloc, &settings, p),
-        None => Bytes::from_slice(alloc, b"none"),
-    }
-}
-
-// The value of a parameter.
-fn value(alloc: Global, settings: &Settings, name: &[u8]) -> Result<Bytes, NoMemory> {
-    match param(name) {
-        Some(p) => settings.text(p).copy(alloc),
-        None => Bytes::from_slice(alloc, b"none"),
-    }
-}
-
-// The line of its last setting.
-fn line(alloc: Global, settings: &Settings, name: &[u8]) -> Result<Bytes, NoMemory> {
-    match param(name) {
-        Some(p) => number_text(alloc, settings.line(p)),
-        None => Bytes::from_slice(alloc, b"none"),
-    }
-}
-
-// The value of a parameter of a main.cf.
-fn value_in(alloc: Global, text: &[u8], name: &[u8]) -> Result<Bytes, NoMemory> {
-    let settings = settings_of(alloc, text)?;
-    value(alloc, &settings, name)
-}
-
-// The line of its last setting.
-fn line_in(alloc: Global, text: &[u8], name: &[u8]) -> Result<Bytes, NoMemory> {
-    let settings = settings_of(alloc, text)?;
-    line(alloc, &settings, name)
-}
-
 #[test]
 fn parameters_have_their_values(rt: HostRuntime) -> Result<(), Fail> {
     let alloc = rt.alloc();
     for (text, name, end) in VALUES {
-        let seen = value_in(alloc, text.as_bytes(), name.as_bytes())?;
+        let seen = asked(alloc, text.as_bytes(), Question::Value(name.as_bytes()))?;
         assert_eq!(rt; seen.as_slice(), end.as_bytes(), "{text}: {name}");
     }
     Ok(())
@@ -781,7 +413,7 @@ fn parameters_have_their_values(rt: HostRuntime) -> Result<(), Fail> {
 fn values_say_what_they_say(rt: HostRuntime) -> Result<(), Fail> {
     let alloc = rt.alloc();
     for (text, name, end) in SAID {
-        let seen = said_by(alloc, text.as_bytes(), name.as_bytes())?;
+        let seen = asked(alloc, text.as_bytes(), Question::Said(name.as_bytes()))?;
         assert_eq!(rt; seen.as_slice(), end.as_bytes(), "{text}: {name}");
     }
     Ok(())
@@ -791,81 +423,58 @@ fn values_say_what_they_say(rt: HostRuntime) -> Result<(), Fail> {
 fn settings_have_their_lines(rt: HostRuntime) -> Result<(), Fail> {
     let alloc = rt.alloc();
     for (text, name, end) in LINES {
-        let seen = line_in(alloc, text.as_bytes(), name.as_bytes())?;
+        let seen = asked(alloc, text.as_bytes(), Question::Line(name.as_bytes()))?;
         assert_eq!(rt; seen.as_slice(), end.as_bytes(), "{text}: {name}");
     }
     Ok(())
-}
-
-// The value and the line of mail_name where one setting counts after those of main.cf, and the banner.
-fn overridden(alloc: Global) -> Result<Bytes, NoMemory> {
-    let settings = settings_with(alloc, b"mail_name = a", b"mail_name", b"b")?;
-    let banner = value(alloc, &settings, b"smtpd_banner")?;
-    let line = line(alloc, &settings, b"mail_name")?;
-    let mut printed = Bytes::new(alloc);
-    printed.extend_all(&[banner.as_slice(), b" ", line.as_slice()])?;
-    Ok(printed)
-}
-
-#[test]
-fn overriding_settings_count(rt: HostRuntime) -> Result<(), Fail> {
-    let seen = overridden(rt.alloc())?;
-    assert_eq!(rt;
-        seen.as_slice(),
-        b"localhost.localdomain ESMTP b 0".as_slice()
-    );
-    Ok(())
-}
-
-// The line of a class with its items.
-fn class_text(alloc: Global, text: &[u8], name: &[u8]) -> Result<Bytes, NoMemory> {
-    let settings = settings_of(alloc, text)?;
-    let (Some(line), Some(items)) = (settings.class_line(name), settings.class_items(name)) else {
-        return Bytes::from_slice(alloc, b"none");
-    };
-    let mut printed = number_text(alloc, line)?;
-    printed.push(b' ')?;
-    add_items(&mut printed, items)?;
-    Ok(printed)
 }
 
 #[test]
 fn classes_have_their_items(rt: HostRuntime) -> Result<(), Fail> {
     let alloc = rt.alloc();
     for (text, name, end) in CLASSES {
-        let seen = class_text(alloc, text.as_bytes(), name.as_bytes())?;
+        let seen = asked(alloc, text.as_bytes(), Question::Class(name.as_bytes()))?;
         assert_eq!(rt; seen.as_slice(), end.as_bytes(), "{text}: {name}");
     }
     Ok(())
-}
-
-// Adds a table text behind its line.
-fn add_spec(alloc: Global, printed: &mut Bytes, specs: &Specs, n: u64) -> Result<(), NoMemory> {
-    if n >= specs.len() {
-        return Ok(());
-    }
-    let line = number_text(alloc, specs.line(TableId(n)))?;
-    let text = specs.text(TableId(n));
-    printed.extend_all(&[line.as_slice(), b" ", text.as_slice(), b"|"])
-}
-
-// The table texts of a main.cf, each behind its line.
-fn specs_text(alloc: Global, text: &[u8]) -> Result<Bytes, NoMemory> {
-    let settings = settings_of(alloc, text)?;
-    let specs = settings.specs(alloc)?;
-    let mut printed = Bytes::new(alloc);
-    for n in 0..specs.len() {
-        add_spec(alloc, &mut printed, &specs, n)?;
-    }
-    Ok(printed)
 }
 
 #[test]
 fn table_texts_have_their_order(rt: HostRuntime) -> Result<(), Fail> {
     let alloc = rt.alloc();
     for (text, end) in SPECS {
-        let seen = specs_text(alloc, text.as_bytes())?;
+        let seen = asked(alloc, text.as_bytes(), Question::Specs)?;
         assert_eq!(rt; seen.as_slice(), end.as_bytes(), "{text}");
     }
+    Ok(())
+}
+
+// The banner, and the line of mail_name.
+const OVERRIDDEN: &[(&str, &str)] = &[
+    ("smtpd_banner", "localhost.localdomain ESMTP b"),
+    ("mail_name", "b"),
+];
+
+#[test]
+fn settings_that_come_after_count(rt: HostRuntime) -> Result<(), Fail> {
+    let alloc = rt.alloc();
+    for (name, end) in OVERRIDDEN {
+        let seen = asked_with(
+            alloc,
+            b"mail_name = a",
+            b"mail_name",
+            b"b",
+            Question::Value(name.as_bytes()),
+        )?;
+        assert_eq!(rt; seen.as_slice(), end.as_bytes(), "{name}");
+    }
+    let seen = asked_with(
+        alloc,
+        b"mail_name = a",
+        b"mail_name",
+        b"b",
+        Question::Line(b"mail_name"),
+    )?;
+    assert_eq!(rt; seen.as_slice(), b"0".as_slice());
     Ok(())
 }
