@@ -4,7 +4,8 @@
 usage: bench/expansion.py [SETTINGS ..]      (1000, 2000, 5000 and 10000 where they are left out)
 
 It runs the test of params_tests that does so, as `rt test` in that crate's folder leaves it built, with the number in the
-variable SETTINGS, and prints for each number the seconds and the greatest resident memory.
+variable SETTINGS, and prints for each number the seconds and the greatest resident memory, which is at least that of this
+script, from which the test is started.
 """
 import os
 import subprocess
