@@ -1,0 +1,4 @@
+pub mod OrderLaws
+pub mod PresetLaws
+pub mod SettingLaws
+pub mod ValueLaws

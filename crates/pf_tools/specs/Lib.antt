@@ -1,0 +1,5 @@
+pub mod Asked
+pub mod Order
+pub mod Printed
+pub mod Said
+pub mod Values
