@@ -1,4 +1,7 @@
+pub mod FileLaws
 pub mod OrderLaws
 pub mod PresetLaws
+pub mod ReportLaws
+pub mod RunLaws
 pub mod SettingLaws
 pub mod ValueLaws

@@ -1,5 +1,5 @@
 -- What postconf says of a main.cf (postconf(1)). The causes of refusals, and the most bytes of a file, are postgate's own.
-use Rattle.std.specs.Prelude.{ℕ, nat_lt, List, [], Option, None, Some, Result, Ok, Err, length, if◌then◌else◌}
+use Rattle.std.specs.Prelude.{ℕ, Bool, true, false, nat_lt, List, [], Option, None, Some, Result, Ok, Err, length, if◌then◌else◌}
 use Rattle.std.specs.Option.{option_to_list, unwrap_or}
 use Rattle.pf_base.specs.FileList.{file_limit}
 use Rattle.pf_base.specs.declared.refused.Cause.{Cause}
@@ -18,6 +18,11 @@ use Rattle.pf_tools.specs.declared.said.Said.TheVariants.{Edited, Printed}
 use Rattle.pf_words.specs.Postconf.{is_edit}
 use Rattle.pf_words.specs.Sets.{setting_of_word, settings_of_words}
 use Rattle.pf_words.specs.declared.postconf.ConfWords.{ConfWords}
+
+-- it is an edited text
+abbrev pub is_edited : Said → Bool
+is_edited (Printed lines warnings) = false
+is_edited (Edited text) = true
 
 -- the lines and the warnings of names
 abbrev pub printed_of : ConfWords → Settled → List (List ℕ) → Result Said ConfFault

@@ -3,7 +3,13 @@
 
 mod all_settings;
 mod asked;
+mod file;
 mod lines;
 mod order;
+mod report;
 mod said;
+mod say;
+mod top;
 mod values;
+
+pub use top::postconf;

@@ -1,5 +1,5 @@
 //! What is said of a main.cf.
-ghost use Rattle.std.specs.Prelude.{◌≡◌, true, IfOk};
+ghost use Rattle.std.specs.Prelude.{◌≡◌, true, false, IfOk};
 ghost use Rattle.pf_base.specs.Unless.{Unless};
 ghost use Rattle.pf_maincf.specs.Edit.{AreSets};
 ghost use Rattle.pf_tools.specs.Asked.{asked_names};
@@ -28,7 +28,8 @@ fn printed_of(
     all: &AllSettings,
     names: &[Bytes],
 ) -> Result<Said, ConfFault>
-    ensures { Unless result ConfFault.NoMemory (λ r. r ≡ spec.printed_of words.now all.now names.now) }
+    ensures is { Unless result ConfFault.NoMemory (λ r. r ≡ spec.printed_of words.now all.now names.now) }
+    ensures edited { IfOk result (λ said. spec.is_edited said ≡ false) }
 {
     let lines = lines_of(alloc, words, all, names)?;
     match warnings_of(alloc, all, names) {
@@ -39,7 +40,8 @@ fn printed_of(
 
 // The lines and the warnings of the names that are asked for.
 fn asked(alloc: Global, words: &ConfWords, all: &AllSettings) -> Result<Said, ConfFault>
-    ensures { Unless result ConfFault.NoMemory (λ r. r ≡ spec.printed_of words.now all.now (asked_names words.now all.now)) }
+    ensures is { Unless result ConfFault.NoMemory (λ r. r ≡ spec.printed_of words.now all.now (asked_names words.now all.now)) }
+    ensures edited { IfOk result (λ said. spec.is_edited said ≡ false) }
 {
     match words.rest.as_slice() {
         [] => {
@@ -83,7 +85,8 @@ fn edits_of(alloc: Global, words: &[Bytes]) -> Result<List<Setting>, NoMemory>
 #[tactic(auto, unfolding(crate::specs::Said::printed))]
 fn printed(alloc: Global, file: &[u8], words: &ConfWords, text: &[u8]) -> Result<Said, ConfFault>
     requires { is_over words.now.over ≡ true }
-    ensures { Unless result ConfFault.NoMemory (λ r. r ≡ spec.printed file.now words.now text.now) }
+    ensures is { Unless result ConfFault.NoMemory (λ r. r ≡ spec.printed file.now words.now text.now) }
+    ensures edited { IfOk result (λ said. spec.is_edited said ≡ false) }
 {
     let main = MainCf::read(alloc, file, text)?;
     let Ok(over) = over_of(alloc, &words.over) else {
@@ -97,7 +100,8 @@ fn printed(alloc: Global, file: &[u8], words: &ConfWords, text: &[u8]) -> Result
 #[tactic(auto, unfolding(crate::specs::Said::edited_by))]
 fn edited_by(alloc: Global, file: &[u8], words: &ConfWords, text: &[u8]) -> Result<Said, ConfFault>
     requires { are_edits words.now.rest ≡ true }
-    ensures { Unless result ConfFault.NoMemory (λ r. r ≡ spec.edited_by file.now words.now text.now) }
+    ensures is { Unless result ConfFault.NoMemory (λ r. r ≡ spec.edited_by file.now words.now text.now) }
+    ensures edited { IfOk result (λ said. spec.is_edited said ≡ true) }
 {
     let Ok(edits) = edits_of(alloc, words.rest.as_slice()) else {
         return Err(ConfFault::NoMemory);
@@ -114,7 +118,8 @@ pub(crate) fn text_said(
     text: &[u8],
 ) -> Result<Said, ConfFault>
     requires { sets_parameters words.now ≡ true }
-    ensures { Unless result ConfFault.NoMemory (λ r. r ≡ spec.text_said file.now words.now text.now) }
+    ensures is { Unless result ConfFault.NoMemory (λ r. r ≡ spec.text_said file.now words.now text.now) }
+    ensures edited { IfOk result (λ said. spec.is_edited said ≡ is_edit words.now.mode) }
 {
     match words.mode {
         ConfMode::Edit => edited_by(alloc, file, words, text),
