@@ -1,9 +1,9 @@
 -- The reports of courses.
-use Rattle.std.proofs.Common.{◌≡◌, ℕ, List, Option, Some, Result, Ok, Err, inl, inr}
-use Rattle.std.specs.Prelude.{◌⊎◌}
+use Rattle.std.proofs.Common.{◌≡◌, ℕ, List, Option, Some, Result, Ok, Err, inl, inr, refl}
+use Rattle.std.specs.Prelude.{◌⊎◌, OnErr}
 use Rattle.pf_base.specs.declared.pair.Pair.{Pair}
 use Rattle.pf_base.specs.declared.refused.Refused.{Refused}
-use Rattle.pf_tools.specs.Course.{Courses, conf_name, replaced, said_in}
+use Rattle.pf_tools.specs.Course.{Unfinished, conf_name, replaced, said_in}
 use Rattle.pf_tools.specs.Course.{Course as course}
 use Rattle.pf_tools.specs.Reports.{Answers, IsEditReport, Reports, report_of}
 use Rattle.pf_tools.specs.declared.file.FileFault.{FileFault}
@@ -36,5 +36,12 @@ module _ (words : ConfWords) (before now : Option (List Pair)) where
 
   -- and the course where memory was wanting
   pub edit_short : (text : List ℕ) → Told words before (Ok (said.Edited text)) → (now ≡ before) ⊎ (now ≡ replaced (conf_name words.folder) text before)
-      → Courses words before now
-  edit_short text told left = record { course = course.unreplaced text; is = told; leaves = left }
+      → Unfinished words before now
+  edit_short text told left = record { courses = record { course = course.unreplaced text; is = told; leaves = left }; undone = refl }
+
+  pub unread_left : now ≡ before → Unfinished words before now
+  unread_left same = record { courses = record { course = course.unread; is = tt; leaves = same }; undone = refl }
+
+  pub unread_short : {T E : Type 0} (r : Result T E) → now ≡ before → OnErr r (Unfinished words before now)
+  unread_short (Ok x) same = tt
+  unread_short (Err e) same = unread_left same

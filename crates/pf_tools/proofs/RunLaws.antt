@@ -1,9 +1,10 @@
 -- A run by what was gathered and written.
-use Rattle.std.proofs.Common.{◌≡◌, ℕ, List, Option, ap, subst, ◌∙◌}
+use Rattle.std.proofs.Common.{◌≡◌, ℕ, false, List, [], Option, refl, ap, subst, ◌∙◌}
 use Rattle.std.specs.Io.KnownBytes.{append_known}
 use Rattle.pf_base.specs.Told.{HoldsFront}
 use Rattle.pf_base.specs.declared.pair.Pair.{Pair}
-use Rattle.pf_tools.specs.Course.{conf_name, ending_status, log_of, output_of}
+use Rattle.pf_tools.specs.Course.{Course, conf_name, ending_status, is_done, log_of, output_of}
+use Rattle.pf_tools.specs.Course.{Course as course}
 use Rattle.pf_tools.specs.Reports.{Reports}
 use Rattle.pf_tools.specs.Run.{CutOff, RunsThrough, world}
 use Rattle.pf_tools.specs.declared.report.Report.{Report}
@@ -26,11 +27,17 @@ module _ (words : ConfWords) (before now : Option (List Pair)) (report : Report)
     log = log_told ∙ ap (append_known log) log_is;
   }
 
-  -- a front of it was
+  -- a front of it was, which is less where there is something to write
   pub runs_short : (out out_now log log_now : Option (List ℕ)) → HoldsFront out out_now report.output → HoldsFront log log_now report.log
-      → CutOff words (world out log before) (world out_now log_now now)
-  runs_short out out_now log log_now out_front log_front = record {
-    courses = reports.courses;
+      → (report.output ≡ [] → report.log ≡ [] → ⊥) → CutOff words (world out log before) (world out_now log_now now)
+  runs_short out out_now log log_now out_front log_front some = record {
+    left = record { courses = reports.courses; undone = by_course reports.courses.course output_is log_is };
     out = subst (HoldsFront out out_now) output_is out_front;
     log = subst (HoldsFront log log_now) log_is log_front;
-  }
+  } where
+    by_course : (c : Course) → report.output ≡ output_of c → report.log ≡ log_of (conf_name words.folder) c → is_done c ≡ false
+    by_course (course.edits text) output log = absurd (some output log)
+    by_course (course.prints lines warnings) output log = refl
+    by_course (course.refuses refusal) output log = refl
+    by_course course.unread output log = refl
+    by_course (course.unreplaced text) output log = refl

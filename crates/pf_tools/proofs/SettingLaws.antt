@@ -1,7 +1,8 @@
 -- The last settings of names in a main.cf and behind it.
 use Rattle.std.proofs.Common.{◌≡◌, ℕ, ◌++◌, Bool, true, false, List, [], ◌∷◌, map, Option, None, Some, Ok, Result, cond, refl, sym, ap, ◌∙◌}
 use Rattle.std.proofs.lemmas.List.{map-append}
-use Rattle.std.specs.Option.{option_map, option_map_or, option_or}
+use Rattle.std.specs.Borrow.{Bor}
+use Rattle.std.specs.Option.{option_copied, option_map, option_map_or, option_or}
 use Rattle.std.specs.Str.{bytes_eq}
 use Rattle.pf_base.specs.declared.refused.ConfFault.{ConfFault}
 use Rattle.pf_base.specs.declared.refused.Refused.{Refused}
@@ -40,6 +41,15 @@ last_of_both conf over name =
     ∙ ap (λ o. option_or o (last_setting (map (line_if true) conf.settings) name)) (last_behind over name)
     ∙ ap (λ xs. option_or (option_map (line_if false) (last_setting over name)) (last_setting xs name)) (same_settings conf.settings)
 
+-- what is found first, behind references
+copied_or : (a b : Option (Bor Setting)) → option_copied (option_or a b) ≡ option_or (option_copied a) (option_copied b)
+copied_or None b = refl
+copied_or (Some x) b = refl
+
+pub found_first : (found a b : Option (Bor Setting)) (x y : Option Setting) → found ≡ option_or a b → option_copied a ≡ x → option_copied b ≡ y
+    → option_copied found ≡ option_or x y
+found_first found a b x y is a_is b_is = ap option_copied is ∙ copied_or a b ∙ rw (a_is, b_is) refl
+
 -- its text and its line
 abbrev text_in : Option Setting → Option (List ℕ)
 text_in o = option_map (λ (s : Setting). s.value) o
@@ -51,18 +61,20 @@ module _ (s : Settled) (conf : Conf) (over : List Setting) (name : List ℕ) (is
   both : last_setting s.settings name ≡ option_or (option_map (line_if false) (last_setting over name)) (last_setting conf.settings name)
   both = ap (λ (x : Settled). last_setting x.settings name) is ∙ last_of_both conf over name
 
-  pub text_behind : (setting : Setting) → Some setting ≡ last_setting over name → Some setting.value ≡ text_in (last_setting s.settings name)
-  text_behind setting found = sym (ap text_in (both ∙ ap (λ o. option_or (option_map (line_if false) o) (last_setting conf.settings name)) (sym found)))
+  -- the text of the last one behind the main.cf, and else of that of the main.cf
+  pub text_counts : (found : Option Setting) → found ≡ option_or (last_setting over name) (last_setting conf.settings name)
+      → text_in found ≡ text_in (last_setting s.settings name)
+  text_counts found is = ap text_in is ∙ by_over (last_setting over name) ∙ sym (ap text_in both) where
+    by_over : (o : Option Setting)
+        → text_in (option_or o (last_setting conf.settings name)) ≡ text_in (option_or (option_map (line_if false) o) (last_setting conf.settings name))
+    by_over None = refl
+    by_over (Some setting) = refl
 
   pub line_behind : (setting : Setting) → Some setting ≡ last_setting over name → 0 ≡ line_of s name
   line_behind setting found = sym (ap line_in (both ∙ ap (λ o. option_or (option_map (line_if false) o) (last_setting conf.settings name)) (sym found)))
 
   before : None ≡ last_setting over name → last_setting s.settings name ≡ last_setting conf.settings name
   before none = both ∙ ap (λ o. option_or (option_map (line_if false) o) (last_setting conf.settings name)) (sym none)
-
-  pub text_before : (setting : Option Setting) → None ≡ last_setting over name → setting ≡ last_setting conf.settings name
-      → text_in setting ≡ text_in (last_setting s.settings name)
-  text_before setting none found = ap text_in found ∙ sym (ap text_in (before none))
 
   pub line_before : (setting : Option Setting) → None ≡ last_setting over name → setting ≡ last_setting conf.settings name
       → line_in setting ≡ line_of s name

@@ -1,6 +1,6 @@
 -- The course that a run of postconf can take, what is written in it, and what it leaves of the files (postconf(1)). The statuses, and the lines of
 -- calls on files that failed, are postgate's own.
-use Rattle.std.specs.Prelude.{◌≡◌, ◌⊎◌, ℕ, ◌++◌, List, [], ◌∷◌, Option, None, Some, Result, Ok, Err, codes, if◌then◌else◌}
+use Rattle.std.specs.Prelude.{◌≡◌, ◌⊎◌, ℕ, ◌++◌, Bool, true, false, List, [], ◌∷◌, Option, None, Some, Result, Ok, Err, codes, if◌then◌else◌}
 use Rattle.std.specs.Option.{option_map}
 use Rattle.std.specs.Str.{is_utf8}
 use Rattle.pf_base.specs.FileList.{file_of, with_file}
@@ -104,3 +104,13 @@ pub record Courses (words : ConfWords) (before now : Option (List Pair)) : Type 
   pub course : Course
   pub is : IsCourse words before course
   pub leaves : Leaves (conf_name words.folder) course before now
+
+-- an edited text stands in the place of the file
+abbrev pub is_done : Course → Bool
+is_done (edits text) = true
+is_done other = false
+
+-- a course that did not come to its end: the text of an edit does not stand in the place of the file, or may not
+pub record Unfinished (words : ConfWords) (before now : Option (List Pair)) : Type 0 where
+  pub courses : Courses words before now
+  pub undone : is_done courses.course ≡ false

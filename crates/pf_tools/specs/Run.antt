@@ -6,7 +6,7 @@ use Rattle.pf_base.specs.Told.{HoldsFront}
 use Rattle.pf_base.specs.declared.pair.Pair.{Pair}
 use Rattle.pf_base.specs.declared.refused.ConfFault.{ConfFault}
 use Rattle.pf_base.specs.declared.refused.ConfFault.TheVariants as fault
-use Rattle.pf_tools.specs.Course.{Courses, conf_name, log_of, output_of, status_of}
+use Rattle.pf_tools.specs.Course.{Courses, Unfinished, conf_name, log_of, output_of, status_of}
 use Rattle.pf_tools.specs.Course.{Course as course}
 use Rattle.pf_tools.specs.declared.say.SayFault.{SayFault}
 use Rattle.pf_tools.specs.declared.say.SayFault.TheVariants as say
@@ -32,9 +32,9 @@ pub record RunsThrough (words : ConfWords) (before now : World) (status : ℕ) :
 
 -- a run was broken off: each sink holds a front of what its course writes
 pub record CutOff (words : ConfWords) (before now : World) : Type 0 where
-  pub courses : Courses words before.files now.files
-  pub out : HoldsFront before.out now.out (output_of courses.course)
-  pub log : HoldsFront before.log now.log (log_of (conf_name words.folder) courses.course)
+  pub left : Unfinished words before.files now.files
+  pub out : HoldsFront before.out now.out (output_of left.courses.course)
+  pub log : HoldsFront before.log now.log (log_of (conf_name words.folder) left.courses.course)
 
 -- the counts of faults of the output, the log and the files
 pub record Faults : Type 0 where

@@ -78,12 +78,9 @@ impl AllSettings {
     pub(crate) fn text(&self, name: &[u8]) -> Option<&Bytes>
         ensures { option_copied result ≡ option_map (λ setting. setting.value) (last_setting self.now.settings name.now) }
     {
-        match last_of(self.over.as_slice(), name) {
+        match last_of(self.over.as_slice(), name).or(self.main.last(name)) {
             Some(setting) => Some(&setting.value),
-            None => match self.main.last(name) {
-                Some(setting) => Some(&setting.value),
-                None => None,
-            },
+            None => None,
         }
     }
 

@@ -4,7 +4,7 @@ ghost use Rattle.std.specs.Str.{IsUtf8};
 ghost use Rattle.pf_base.specs.Causes.{Rose};
 ghost use Rattle.pf_base.specs.Refusal.{refusal_line};
 ghost use Rattle.pf_tools.specs.Course as spec;
-ghost use Rattle.pf_tools.specs.Course.{Courses, replaced};
+ghost use Rattle.pf_tools.specs.Course.{Unfinished, replaced};
 ghost use Rattle.pf_tools.specs.Reports.{IsEditReport, Reports};
 ghost use Rattle.pf_words.specs.Postconf.{is_edit, sets_parameters};
 
@@ -115,7 +115,8 @@ pub(crate) fn gather<F: Files>(
 ) -> Result<Report, NoMemory>
     requires { sets_parameters words.now ≡ true }
     ensures ok { IfOk result (Reports words.now (F.content files.old) (F.content files.new)) }
-    ensures err { OnErr result (Courses words.now (F.content files.old) (F.content files.new)) }
+    ensures err { OnErr result (Unfinished words.now (F.content files.old) (F.content files.new)) }
+    ensures output { is_edit words.now.mode ≡ true → IfOk result (λ report. report.output ≡ []) }
     ensures same { is_edit words.now.mode ≡ false → F.content files.new ≡ F.content files.old }
     ensures failed { IfOk result (λ report. report.ending ≡ Ending.FilesFailed → Rose (F.faults files.old) (F.faults files.new)) }
     ensures kept { IfOk result (λ report. report.ending ≢ Ending.FilesFailed → F.faults files.new ≡ F.faults files.old) }

@@ -1,5 +1,5 @@
 //! What is written at the end of a run.
-ghost use Rattle.std.specs.Prelude.{◌≡◌, Err, OnOk};
+ghost use Rattle.std.specs.Prelude.{◌≡◌, [], Err, IsOk, OnOk};
 ghost use Rattle.std.specs.Io.KnownBytes.{append_known};
 ghost use Rattle.pf_base.specs.Causes.{HasOuterCause, Rose};
 ghost use Rattle.pf_base.specs.Told.{HoldsFront, Writes};
@@ -19,6 +19,7 @@ pub(crate) enum SayFault {
 fn write_some<S: Sink>(sink: &mut S, text: &[u8]) -> Result<(), OuterFault>
     ensures bytes { Writes (S.written sink.old) (S.written sink.new) result text.now }
     ensures cause { HasOuterCause (S.faults sink.old) (S.faults sink.new) result }
+    ensures nothing { text.now ≡ [] → IsOk result × (S.written sink.new ≡ S.written sink.old) × (S.faults sink.new ≡ S.faults sink.old) }
 {
     if text.is_empty() {
         return Ok(());
@@ -40,6 +41,8 @@ pub(crate) fn say<O: Sink, J: Sink>(
     ensures log_kept { OnOk result (J.faults log.new ≡ J.faults log.old) }
     ensures out_failed { result ≡ Err SayFault.Out → Rose (O.faults out.old) (O.faults out.new) }
     ensures log_failed { result ≡ Err SayFault.Log → Rose (J.faults log.old) (J.faults log.new) }
+    ensures no_output { report.now.output ≡ [] → (O.written out.new ≡ O.written out.old) × (O.faults out.new ≡ O.faults out.old) }
+    ensures nothing { report.now.output ≡ [] → report.now.log ≡ [] → IsOk result }
 {
     match write_some(log, report.log.as_slice()) {
         Ok(()) => {}

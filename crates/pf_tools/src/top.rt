@@ -86,6 +86,8 @@ pub fn postconf<F: Files, O: Sink, J: Sink>(
 
     // What stays as it was.
     ensures content { is_edit words.now.mode ≡ false → F.content files.new ≡ F.content files.old }
+    ensures output { is_edit words.now.mode ≡ true
+        → (O.written out.new ≡ O.written out.old) × (O.faults out.new ≡ O.faults out.old) }
 {
     let Ok(report) = gather(alloc, words, files) else {
         return NO_MEMORY;

@@ -1,5 +1,6 @@
+use Rattle.std.proofs.Common.{Err, refl}
 use Rattle.std.proofs.lemmas.Result.{IfOk-weaker, on_err_weaker}
-use Rattle.pf_tools.proofs.ReportLaws.{edit_report, edit_short, prints_report, refuses_report, unread_report}
+use Rattle.pf_tools.proofs.ReportLaws.{edit_report, edit_short, prints_report, refuses_report, unread_left, unread_report, unread_short}
 use Rattle.pf_tools.proofs.report.gather.Goals as goal
 
 pub returns-in-Ok-Printed-clause-ok : goal.returns-in-Ok-Printed-clause-ok
@@ -29,3 +30,15 @@ pub returns-in-Err-Failed-clause-ok : goal.returns-in-Err-Failed-clause-ok
 returns-in-Err-Failed-clause-ok g c =
     let is = rw (c.as_slice-file.ensures, c.in_ok-name.ensures) at c.failed_report.ensures in
     IfOk-weaker c.failed_report.result _ _ (λ report is. unread_report c.args.words.now _ _ report c.file_said.ensures.same is) is
+
+pub returns-in_err-name-clause-err : goal.returns-in_err-name-clause-err
+returns-in_err-name-clause-err g c = unread_short c.args.words.now _ _ c.from_residual.result refl
+
+pub returns-in-Err-Refused-clause-err : goal.returns-in-Err-Refused-clause-err
+returns-in-Err-Refused-clause-err g c = unread_short c.args.words.now _ _ c.refused_report.result c.file_said.ensures.same
+
+pub returns-in-Err-Failed-clause-err : goal.returns-in-Err-Failed-clause-err
+returns-in-Err-Failed-clause-err g c = unread_short c.args.words.now _ _ c.failed_report.result c.file_said.ensures.same
+
+pub returns-clause-err : goal.returns-clause-err
+returns-clause-err g c = unread_left c.args.words.now _ _ c.file_said.ensures.same

@@ -7,3 +7,4 @@ returns-in-Ok-say-clause-through g c = λ through.
 
 pub returns-clause-cut : goal.returns-clause-cut
 returns-clause-cut g c = λ cut. runs_short c.args.words.now _ _ c.in-Ok.report c.in-Ok.ensures.ok _ _ _ _ c.in-Err.ensures.out_front c.in-Err.ensures.log_front
+    (λ output log. let done = c.in-Err.ensures.nothing output log in cc)

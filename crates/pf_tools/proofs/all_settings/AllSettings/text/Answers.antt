@@ -1,18 +1,13 @@
 use Rattle.std.proofs.Common.{Some, None, sym, ◌∙◌}
-use Rattle.pf_tools.proofs.SettingLaws.{text_behind, text_before}
+use Rattle.pf_tools.proofs.SettingLaws.{found_first, text_counts}
 use Rattle.pf_tools.proofs.all_settings.AllSettings.text.Goals as goal
 
 pub returns-in-Some : goal.returns-in-Some
 returns-in-Some c =
-    text_behind c.args.self.now c.self.inside.main c.self.inside.over c.args.name.now (sym c.self.view_is ∙ c.self.invariant)
-    c.in-Some.setting.now (rw c.as_slice.ensures at c.in-Some.ensures)
+    text_counts c.args.self.now c.self.inside.main c.self.inside.over c.args.name.now (sym c.self.view_is ∙ c.self.invariant) (Some c.in-Some.setting.now)
+    (found_first (Some c.in-Some.setting) c.last_of.result c.last.result _ _ c.in-Some.ensures (rw c.as_slice.ensures at c.last_of.ensures) c.last.ensures)
 
-pub returns-in-Some-last : goal.returns-in-Some-last
-returns-in-Some-last c =
-    text_before c.args.self.now c.self.inside.main c.self.inside.over c.args.name.now (sym c.self.view_is ∙ c.self.invariant)
-    (Some c.in-Some-last.setting.now) (rw c.as_slice.ensures at c.in-None.ensures) c.in-Some-last.ensures
-
-pub returns-in-None-last : goal.returns-in-None-last
-returns-in-None-last c =
-    text_before c.args.self.now c.self.inside.main c.self.inside.over c.args.name.now (sym c.self.view_is ∙ c.self.invariant)
-    None (rw c.as_slice.ensures at c.in-None.ensures) c.in-None-last.ensures
+pub returns-in-None : goal.returns-in-None
+returns-in-None c =
+    text_counts c.args.self.now c.self.inside.main c.self.inside.over c.args.name.now (sym c.self.view_is ∙ c.self.invariant) None
+    (found_first None c.last_of.result c.last.result _ _ c.in-None.ensures (rw c.as_slice.ensures at c.last_of.ensures) c.last.ensures)
