@@ -1,0 +1,63 @@
+-- What names stand for by default.
+use Rattle.std.proofs.Common.{◌≡◌, ℕ, ◌≤◌, zero, suc, Bool, true, false, List, [], ◌∷◌, Option, None, Some, cond, codes, get_or, length, ltb, refl, sym, ap, ◌∙◌, arith}
+use Rattle.std.proofs.lemmas.Bool.{and_parts, ltb-false}
+use Rattle.std.proofs.lemmas.List.Folds.{find_at}
+use Rattle.std.proofs.lemmas.List.Quantifiers.{position-Some}
+use Rattle.std.proofs.lemmas.Option.{slice_get-get_or}
+use Rattle.std.proofs.lemmas.Slice.Eq.{bytes_eq-Decides}
+use Rattle.std.specs.List.{find, list_all, position, position_or_len, slice_get}
+use Rattle.std.specs.Option.{option_map_or}
+use Rattle.std.specs.Str.{bytes_eq}
+use Rattle.pf_catalogue.specs.Catalogue.{Preset, Row, catalogue, place_of, row, row_at}
+use Rattle.pf_catalogue.specs.Catalogue.{Preset as preset}
+use Rattle.pf_catalogue.specs.declared.kind.Kind.TheVariants.{Text}
+use Rattle.pf_params.specs.Names.{Source as source}
+use Rattle.pf_params.specs.Presets.{preset_of, preset_source}
+
+-- an element by its place
+past : {X : Type 0} (xs : List X) (n : ℕ) → length xs ≤ n → slice_get xs n ≡ None
+past [] n h = refl
+past (x ∷ xs) zero h = absurd (omega arith)
+past (x ∷ xs) (suc n) h = past xs n (omega arith)
+
+none_there : {X : Type 0} (p : X → Bool) (xs : List X) → None ≡ position p xs → find p xs ≡ None
+none_there p xs e =
+    let n : ℕ = position_or_len p xs in
+    find_at p xs ∙ past xs n (ltb-false n (length xs) (elim (ltb n (length xs)) as (λ t. cond t (Some n) None ≡ None → t ≡ false) [ true ↦ λ h. cc | false ↦ λ h. refl ] (sym e)))
+
+some_there : {X : Type 0} (p : X → Bool) (xs : List X) (i : ℕ) (d : X) → Some i ≡ position p xs → find p xs ≡ Some (get_or xs i d)
+some_there p xs i d e =
+    let n : ℕ = position_or_len p xs in
+    find_at p xs ∙ ap (slice_get xs) (elim (ltb n (length xs)) as (λ t. cond t (Some n) None ≡ Some i → n ≡ i) [ true ↦ λ h. cc | false ↦ λ h. cc ] (sym e))
+    ∙ slice_get-get_or xs i d (position-Some p xs i d (sym e)).0
+
+-- a name of the catalogue stands for the default of its parameter, and another one for nothing
+pub preset_there : (name : List ℕ) (place : ℕ) → Some place ≡ place_of name → preset_of name ≡ preset_source (row_at place).preset
+preset_there name place at =
+    ap (λ (o : Option Row). option_map_or (λ (r : Row). preset_source r.preset) o (source.text []))
+    (some_there (λ (r : Row). bytes_eq r.name name) catalogue place (row [] Text (preset.text [])) at)
+
+pub no_preset : (name : List ℕ) → None ≡ place_of name → preset_of name ≡ source.text []
+no_preset name none =
+    ap (λ (o : Option Row). option_map_or (λ (r : Row). preset_source r.preset) o (source.text []))
+    (none_there (λ (r : Row). bytes_eq r.name name) catalogue none)
+
+-- a default that is no text is the domain in the value of myhostname
+abbrev is_host : Preset → Bool
+is_host (preset.text bytes) = true
+is_host (preset.domain_of name) = bytes_eq name (codes "myhostname")
+
+all_hosts : list_all (λ (r : Row). is_host r.preset) catalogue ≡ true
+unfolding catalogue
+all_hosts = refl
+
+host_at : (rows : List Row) (place : ℕ) (d : Row) → list_all (λ (r : Row). is_host r.preset) rows ≡ true → is_host d.preset ≡ true
+    → is_host (get_or rows place d).preset ≡ true
+host_at [] place d all none = none
+host_at (r ∷ rows) zero d all none = (and_parts (is_host r.preset) (list_all (λ (r : Row). is_host r.preset) rows) all).0
+host_at (r ∷ rows) (suc place) d all none =
+    host_at rows place d (and_parts (is_host r.preset) (list_all (λ (r : Row). is_host r.preset) rows) all).1 none
+
+pub host_is : (place : ℕ) (name : List ℕ) → preset.domain_of name ≡ (row_at place).preset → name ≡ codes "myhostname"
+host_is place name is =
+    (bytes_eq-Decides name (codes "myhostname")).0 (ap is_host is ∙ host_at catalogue place (row [] Text (preset.text [])) all_hosts refl)

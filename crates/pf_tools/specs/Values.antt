@@ -1,0 +1,45 @@
+-- The values that are shown of names (postconf(1)). The causes of refusals are postgate's own.
+use Rattle.std.specs.Prelude.{ℕ, Bool, true, false, List, [], Result, Ok, Err, if◌then◌else◌}
+use Rattle.pf_base.specs.declared.refused.ConfFault.{ConfFault}
+use Rattle.pf_base.specs.declared.refused.ConfFault.TheVariants.{Refused}
+use Rattle.pf_params.specs.Expansion.{Answer}
+use Rattle.pf_params.specs.Names.{Source, depth_limit, name_value, source_value}
+use Rattle.pf_params.specs.Names.{Source as source}
+use Rattle.pf_params.specs.Parameters.{refusal_of}
+use Rattle.pf_params.specs.Presets.{preset_of}
+use Rattle.pf_params.specs.Settled.{Settled, cause_of, settled_source}
+use Rattle.pf_words.specs.declared.postconf.ConfMode.{ConfMode}
+use Rattle.pf_words.specs.declared.postconf.ConfMode.TheVariants as mode
+use Rattle.pf_words.specs.declared.postconf.ConfWords.{ConfWords}
+use Rattle.pf_words.specs.declared.postconf.Shape.{Shape}
+use Rattle.pf_words.specs.declared.postconf.Shape.TheVariants as shape
+
+-- what a name stands for: with -d by default, and else where the settings count
+abbrev pub source_in : ConfMode → Settled → List ℕ → Source
+source_in mode.Defaults s name = preset_of name
+source_in mode s name = settled_source s name
+
+-- the value of what a name stands for
+abbrev pub value_in : Settled → Source → Answer
+value_in s what = source_value (name_value (settled_source s) depth_limit) what
+
+-- what is shown of it: with -x its value, and else its text, where it is one
+abbrev pub shown : Bool → Settled → Source → Answer
+shown expanded s (source.text bytes) = if expanded then value_in s (source.text bytes) else Ok bytes
+shown expanded s (source.domain name) = value_in s (source.domain name)
+
+-- a value of a name, or the refusal of its setting
+abbrev pub unless_flawed : Settled → List ℕ → Answer → Result (List ℕ) ConfFault
+unless_flawed s name (Ok value) = Ok value
+unless_flawed s name (Err flaw) = Err (Refused (refusal_of s name (cause_of flaw)))
+
+-- names alone are printed
+abbrev pub is_names : Shape → Bool
+is_names shape.Names = true
+is_names other = false
+
+-- the value that is printed of a name, or its refusal; with -H none is
+abbrev pub value_shown : ConfWords → Settled → List ℕ → Result (List ℕ) ConfFault
+value_shown words s name =
+    if is_names words.shape then Ok []
+    else unless_flawed s name (shown words.expanded s (source_in words.mode s name))

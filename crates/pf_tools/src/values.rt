@@ -1,0 +1,154 @@
+//! The values that are shown of names.
+ghost use Rattle.std.specs.Prelude.{◌≡◌, ◌==◌, ◌≢◌, ◌∷◌, codes, IfOk};
+ghost use Rattle.std.specs.List.{position};
+ghost use Rattle.std.specs.Option.{option_copied, option_map_or};
+ghost use Rattle.pf_base.specs.Unless.{Unless};
+ghost use Rattle.pf_params.specs.Names as names;
+ghost use Rattle.pf_params.specs.Names.{Source as source};
+ghost use Rattle.pf_params.specs.Parameters.{line_of};
+ghost use Rattle.pf_params.specs.Presets.{preset_of};
+ghost use Rattle.pf_params.specs.Settled.{or_refused};
+ghost use Rattle.pf_tools.specs.Values as spec;
+
+use crate::all_settings::AllSettings;
+use pf_base::{Bytes, ConfFault, NoMemory, Refused};
+use pf_catalogue::{Preset, param, preset_of};
+use pf_words::{ConfMode, ConfWords, Shape};
+use std::alloc::Global;
+
+// The place of the first dot.
+fn dot_place(host: &[u8]) -> Option<usize>
+    ensures { result ≡ position (λ b. b == 46) host.now }
+{
+    host.iter().position(|b| *b == b'.')
+}
+
+// The domain in a host name.
+fn domain_in(alloc: Global, host: &[u8]) -> Result<Bytes, NoMemory>
+    ensures { IfOk result (λ domain. domain ≡ names.domain_in host.now) }
+{
+    match dot_place(host) {
+        None => Bytes::from_slice(alloc, b"localdomain"),
+        Some(place) => Bytes::from_slice(alloc, &host[place + 1..]),
+    }
+}
+
+// A text in which a name stands for its value.
+fn text_with(alloc: Global, name: &[u8]) -> Result<Bytes, NoMemory>
+    ensures { IfOk result (λ text. text ≡ 36 ∷ name.now) }
+{
+    let mut text = Bytes::new(alloc);
+    text.push(b'$')?;
+    text.extend(name)?;
+    Ok(text)
+}
+
+// The domain in the value of a name.
+fn domain_shown(alloc: Global, all: &AllSettings, host: &[u8]) -> Result<Bytes, ConfFault>
+    requires { host.now ≡ codes "myhostname" }
+    ensures { Unless result ConfFault.NoMemory (λ r. r ≡ or_refused all.now.file (spec.value_in all.now (source.domain host.now))) }
+{
+    let Ok(text) = text_with(alloc, host) else {
+        return Err(ConfFault::NoMemory);
+    };
+    let value = all.expand(alloc, text.as_slice())?;
+    match domain_in(alloc, value.as_slice()) {
+        Ok(domain) => Ok(domain),
+        Err(NoMemory) => Err(ConfFault::NoMemory),
+    }
+}
+
+// A text, or its value.
+fn text_shown(
+    alloc: Global,
+    all: &AllSettings,
+    expanded: bool,
+    text: &[u8],
+) -> Result<Bytes, ConfFault>
+    ensures { Unless result ConfFault.NoMemory (λ r. r ≡ or_refused all.now.file (spec.shown expanded all.now (source.text text.now))) }
+{
+    if expanded {
+        return all.expand(alloc, text);
+    }
+    match Bytes::from_slice(alloc, text) {
+        Ok(text) => Ok(text),
+        Err(NoMemory) => Err(ConfFault::NoMemory),
+    }
+}
+
+// What is shown of a name by default.
+fn preset_shown(
+    alloc: Global,
+    all: &AllSettings,
+    expanded: bool,
+    name: &[u8],
+) -> Result<Bytes, ConfFault>
+    ensures { Unless result ConfFault.NoMemory (λ r. r ≡ or_refused all.now.file (spec.shown expanded all.now (preset_of name.now))) }
+{
+    match param(name) {
+        None => text_shown(alloc, all, expanded, b""),
+        Some(p) => match preset_of(p) {
+            Preset::Is(text) => text_shown(alloc, all, expanded, text),
+            Preset::DomainOf(host) => domain_shown(alloc, all, host),
+        },
+    }
+}
+
+// The text that is set for a name and counts.
+fn counting_text<'a>(mode: ConfMode, all: &'a AllSettings, name: &[u8]) -> Option<&'a Bytes>
+    ensures { spec.source_in mode all.now name.now ≡ option_map_or source.text (option_copied result) (preset_of name.now) }
+{
+    match mode {
+        ConfMode::Defaults => None,
+        _ => all.text(name),
+    }
+}
+
+// What is shown of a name.
+fn name_shown(
+    alloc: Global,
+    words: &ConfWords,
+    all: &AllSettings,
+    name: &[u8],
+) -> Result<Bytes, ConfFault>
+    ensures { Unless result ConfFault.NoMemory (λ r. r ≡ or_refused all.now.file (spec.shown words.now.expanded all.now (spec.source_in words.now.mode all.now name.now))) }
+{
+    match counting_text(words.mode, all, name) {
+        Some(text) => text_shown(alloc, all, words.expanded, text.as_slice()),
+        None => preset_shown(alloc, all, words.expanded, name),
+    }
+}
+
+// A refusal at the last setting of a name.
+fn at_setting(alloc: Global, all: &AllSettings, name: &[u8], refusal: Refused) -> ConfFault
+    ensures { result ≢ ConfFault.NoMemory → result ≡ ConfFault.Refused (record refusal { line = line_of all.now name.now; name = name.now }) }
+{
+    match Bytes::from_slice(alloc, name) {
+        Err(NoMemory) => ConfFault::NoMemory,
+        Ok(copy) => ConfFault::Refused(Refused {
+            file: refusal.file,
+            line: all.line(name),
+            cause: refusal.cause,
+            name: copy,
+        }),
+    }
+}
+
+/// The value that is printed of a name, or the refusal of its last setting; nothing where names alone are printed.
+pub(crate) fn value_shown(
+    alloc: Global,
+    words: &ConfWords,
+    all: &AllSettings,
+    name: &[u8],
+) -> Result<Bytes, ConfFault>
+    ensures { Unless result ConfFault.NoMemory (λ r. r ≡ spec.value_shown words.now all.now name.now) }
+{
+    if words.shape == Shape::Names {
+        return Ok(Bytes::new(alloc));
+    }
+    match name_shown(alloc, words, all, name) {
+        Ok(value) => Ok(value),
+        Err(ConfFault::Refused(refusal)) => Err(at_setting(alloc, all, name, refusal)),
+        Err(ConfFault::NoMemory) => Err(ConfFault::NoMemory),
+    }
+}
