@@ -11,7 +11,7 @@ use Rattle.std.specs.Str.{bytes_eq}
 use Rattle.pf_catalogue.specs.Catalogue.{Preset, Row, catalogue, place_of, row, row_at}
 use Rattle.pf_catalogue.specs.Catalogue.{Preset as preset}
 use Rattle.pf_catalogue.specs.declared.kind.Kind.TheVariants.{Text}
-use Rattle.pf_params.specs.Names.{Source as source}
+use Rattle.pf_expand.specs.Names.{Source as source}
 use Rattle.pf_params.specs.Presets.{preset_of, preset_source}
 
 -- an element by its place

@@ -12,9 +12,9 @@ use Rattle.pf_maincf.specs.Edit.{edited}
 use Rattle.pf_maincf.specs.Settings.{conf_of}
 use Rattle.pf_maincf.specs.declared.setting.Setting.{Setting}
 use Rattle.pf_params.specs.Accepted.{accepted}
-use Rattle.pf_params.specs.Expansion.{parts, text_value}
-use Rattle.pf_params.specs.Forms.{first_part, form_of}
-use Rattle.pf_params.specs.Names.{name_value}
+use Rattle.pf_expand.specs.Expansion.{parts, text_value}
+use Rattle.pf_expand.specs.Forms.{first_part, form_of}
+use Rattle.pf_expand.specs.Names.{name_value}
 use Rattle.pf_params.specs.Parameters.{reading_of}
 use Rattle.pf_params.specs.Settled.{Settled}
 use Rattle.pf_tools.specs.Asked.{asked_names, is_known, is_shown, shown_names}

@@ -4,13 +4,13 @@ use Rattle.std.proofs.lemmas.Bool.{ltb-true, ltb-false}
 use Rattle.std.proofs.lemmas.List.{length-drop}
 use Rattle.std.specs.List.{position}
 use Rattle.pf_base.specs.declared.refused.ConfFault.{ConfFault}
-use Rattle.pf_params.specs.Expansion.{Answer, Text, joined, length_limit, parts, parts_of, text_value, value_of, value_or_bad, within_limit}
-use Rattle.pf_params.specs.Forms.{first_part, form_of}
-use Rattle.pf_params.specs.Names.{Source, depth_limit, domain_in, domain_of, name_value, past_dot, source_value}
-use Rattle.pf_params.specs.Names.{Source as source}
+use Rattle.pf_expand.specs.Expansion.{Answer, Text, joined, length_limit, parts, parts_of, text_value, value_of, value_or_bad, within_limit}
+use Rattle.pf_expand.specs.Forms.{first_part, form_of}
+use Rattle.pf_expand.specs.Names.{Source, depth_limit, domain_in, domain_of, name_value, past_dot, source_value}
+use Rattle.pf_expand.specs.Names.{Source as source}
 use Rattle.pf_params.specs.Settled as settled
 use Rattle.pf_params.specs.Settled.{Settled, or_refused, settled_source}
-use Rattle.pf_params.specs.declared.flaw.Flaw.TheVariants.{TooLong}
+use Rattle.pf_expand.specs.declared.flaw.Flaw.TheVariants.{TooLong}
 use Rattle.pf_tools.specs.Values.{value_in}
 
 -- no value is above the limit

@@ -2,7 +2,6 @@
 use Rattle.std.specs.Prelude.{ℕ, ◌++◌, List, [], ◌∷◌, Result, Ok, Err, codes, if◌then◌else◌}
 use Rattle.std.specs.List.{flat_map}
 use Rattle.pf_base.specs.declared.refused.ConfFault.{ConfFault}
-use Rattle.pf_maincf.specs.Edit.{behind_sign}
 use Rattle.pf_params.specs.Settled.{Settled}
 use Rattle.pf_tools.specs.Asked.{is_known, is_shown}
 use Rattle.pf_tools.specs.Values.{value_shown}
@@ -15,6 +14,11 @@ infixl 10 ◌>>=◌
 abbrev pub ◌>>=◌ : {A B : Type 0} → Result A ConfFault → (A → Result B ConfFault) → Result B ConfFault
 Ok x >>= f = f x
 Err fault >>= f = Err fault
+
+-- a value with a blank before it; nothing where it is empty
+abbrev pub behind_sign : List ℕ → List ℕ
+behind_sign [] = []
+behind_sign (b ∷ bytes) = 32 ∷ b ∷ bytes
 
 -- what stands in a line: name and value, the value alone, or the name alone; an empty value has no blank before it
 abbrev pub line_text : Shape → List ℕ → List ℕ → List ℕ

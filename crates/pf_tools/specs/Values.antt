@@ -2,9 +2,9 @@
 use Rattle.std.specs.Prelude.{ℕ, Bool, true, false, List, [], Result, Ok, Err, if◌then◌else◌}
 use Rattle.pf_base.specs.declared.refused.ConfFault.{ConfFault}
 use Rattle.pf_base.specs.declared.refused.ConfFault.TheVariants.{Refused}
-use Rattle.pf_params.specs.Expansion.{Answer}
-use Rattle.pf_params.specs.Names.{Source, depth_limit, name_value, source_value}
-use Rattle.pf_params.specs.Names.{Source as source}
+use Rattle.pf_expand.specs.Expansion.{Answer}
+use Rattle.pf_expand.specs.Names.{Source, depth_limit, name_value, source_value}
+use Rattle.pf_expand.specs.Names.{Source as source}
 use Rattle.pf_params.specs.Parameters.{refusal_of}
 use Rattle.pf_params.specs.Presets.{preset_of}
 use Rattle.pf_params.specs.Settled.{Settled, cause_of, settled_source}

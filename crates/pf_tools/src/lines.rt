@@ -1,7 +1,6 @@
 //! The lines that are printed, and the warnings.
 ghost use Rattle.std.specs.Prelude.{◌≡◌, ◌++◌, IfOk, OnOk};
 ghost use Rattle.pf_base.specs.Unless.{Unless};
-ghost use Rattle.pf_maincf.specs.Edit.{behind_sign};
 ghost use Rattle.pf_tools.specs.Printed as spec;
 
 use crate::all_settings::AllSettings;
@@ -13,7 +12,7 @@ use std::alloc::Global;
 
 // Adds a value with a blank before it; nothing where it is empty.
 fn add_behind_sign(line: &mut Bytes, value: &[u8]) -> Result<(), NoMemory>
-    ensures { OnOk result (line.new ≡ line.old ++ behind_sign value.now) }
+    ensures { OnOk result (line.new ≡ line.old ++ spec.behind_sign value.now) }
 {
     if value.is_empty() {
         return Ok(());

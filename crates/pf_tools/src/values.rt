@@ -3,8 +3,8 @@ ghost use Rattle.std.specs.Prelude.{◌≡◌, ◌==◌, ◌≢◌, ◌∷◌, c
 ghost use Rattle.std.specs.List.{position};
 ghost use Rattle.std.specs.Option.{option_copied, option_map_or};
 ghost use Rattle.pf_base.specs.Unless.{Unless};
-ghost use Rattle.pf_params.specs.Names as names;
-ghost use Rattle.pf_params.specs.Names.{Source as source};
+ghost use Rattle.pf_expand.specs.Names as names;
+ghost use Rattle.pf_expand.specs.Names.{Source as source};
 ghost use Rattle.pf_params.specs.Parameters.{line_of};
 ghost use Rattle.pf_params.specs.Presets.{preset_of};
 ghost use Rattle.pf_params.specs.Settled.{or_refused};

@@ -1,0 +1,5 @@
+//! Tests of the commands that print and edit settings.
+#![tactic(auto)]
+
+#[cfg(test)]
+mod postconf_tests;
