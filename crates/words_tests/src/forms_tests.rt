@@ -318,7 +318,7 @@ fn parts_of_words_are_read_alone(rt: HostRuntime) -> Result<(), Fail> {
     let alloc = rt.alloc();
     assert!(rt; words_of(alloc, &[])?.is_none());
     for (line, wanted) in [
-        ("postconf -e a=2 b=", "a = 2\nb =\n"),
+        ("postconf -e a=2 b=", "a = 2\nb = \n"),
         ("postconf -e a=2 a=3", ""),
         ("postconf", "a = 1\n"),
         ("postconf a", ""),
