@@ -136,7 +136,7 @@ absent : file_said file words None ≡ Err (Refused (record { file = file; line 
 absent = refl
 
 edited_text : file_said file (record words { mode = mode.Edit; rest = codes "a=2" ∷ codes "c=" ∷ [] }) (Some (codes "a = 1\nb = 1"))
-    ≡ Ok (Edited (codes "a = 2\nb = 1\nc =\n"))
+    ≡ Ok (Edited (codes "a = 2\nb = 1\nc = \n"))
 unfolding edited_by edited conf_of settings_of_words setting_of_word
 edited_text = refl
 
