@@ -106,7 +106,8 @@ AllSets [] = Unit {0}
 AllSets (set ∷ sets) = IsSet set × AllSets sets
 
 no_item : (xs : List ℕ) → is_ended xs ≡ true → rest xs ≡ []
-no_item xs h = none (rest xs) (eqb-true (length (rest xs)) 0 h) where
+no_item [] h = refl
+no_item (x ∷ xs) h = none (rest (x ∷ xs)) (eqb-true (length (rest (x ∷ xs))) 0 h) where
   none : (r : List ℕ) → length r ≡ 0 → r ≡ []
   none [] h = refl
   none (b ∷ r) h = absurd (omega arith)

@@ -53,7 +53,7 @@ last_of x (y ∷ ys) =
     let next = last_of y ys in
     either_way (eqb x 10) (λ h. rw h next) (λ h. rw h (behind x (y ∷ ys) (lines (y ∷ ys)) refl (length_more y ys) next)) where
       behind : (x : ℕ) (xs : List ℕ) (L : List (List ℕ)) → lines xs ≡ L → eqb (length xs) 0 ≡ false
-          → {t : Bool} → t ≡ is_ended xs → t ≡ eqb (length (unless_line L (x ∷ xs) (rest xs))) 0
+          → {t : Bool} → t ≡ eqb (length (rest xs)) 0 → t ≡ eqb (length (unless_line L (x ∷ xs) (rest xs))) 0
       behind x xs [] none more next = next ∙ (ap (λ r. eqb (length r) 0) (rest_of_none xs none) ∙ (more ∙ sym (length_more x xs)))
       behind x xs (line ∷ L) is more next = next
 

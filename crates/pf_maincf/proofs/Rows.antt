@@ -228,7 +228,7 @@ lines_marked : marked 0 1 (codes "# top" ∷ codes "a = 1" ∷ codes "\t2\r" ∷
 lines_marked = refl
 
 ended_texts : map is_ended ([] ∷ codes "a\n" ∷ codes "\n\n" ∷ codes "a" ∷ codes "a\nb" ∷ codes "a\n\r" ∷ [])
-    ≡ true ∷ true ∷ true ∷ false ∷ false ∷ false ∷ []
+    ≡ false ∷ true ∷ true ∷ false ∷ false ∷ false ∷ []
 ended_texts = refl
 
 -- edits
@@ -283,7 +283,7 @@ new_names_behind_a_line_feed : edited (codes "main.cf") (codes "a = 1\n# c")
 unfolding edited conf_of
 new_names_behind_a_line_feed = refl
 
-empty_text : edited (codes "main.cf") [] (set_to (codes "a") (codes "1") ∷ []) ≡ Ok (codes "a = 1\n")
+empty_text : edited (codes "main.cf") [] (set_to (codes "a") (codes "1") ∷ []) ≡ Ok (codes "\na = 1\n")
 unfolding edited conf_of
 empty_text = refl
 

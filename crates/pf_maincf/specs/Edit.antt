@@ -1,5 +1,5 @@
 -- The edit of a main.cf's text (postconf(1), -e): the last setting of each name that is set gives way to one line, and nothing else changes.
-use Rattle.std.specs.Prelude.{◌≡◌, ℕ, ◌+◌, ◌-◌, ◌==◌, ◌++◌, ◌&&◌, Bool, true, not, List, [], ◌∷◌, Option, None, Some, Result, Ok, Err, length, map, filter, slice_index, codes, if◌then◌else◌}
+use Rattle.std.specs.Prelude.{◌≡◌, ℕ, ◌+◌, ◌-◌, ◌==◌, ◌++◌, ◌&&◌, Bool, true, false, not, List, [], ◌∷◌, Option, None, Some, Result, Ok, Err, length, map, filter, slice_index, codes, if◌then◌else◌}
 use Rattle.std.specs.List.{find, flat_map, fold, list_all, list_any}
 use Rattle.std.specs.Str.{bytes_eq}
 use Rattle.pf_base.specs.Lines.{lines, rest, without_return}
@@ -89,11 +89,12 @@ edited_line sets marked =
 abbrev pub edited_lines : List Setting → List ℕ → List ℕ
 edited_lines sets text = flat_map (edited_line sets) (marked 0 1 (lines text) (rest text))
 
--- nothing stands behind the last line feed
+-- a text ends in a line feed: nothing stands behind its last one
 abbrev pub is_ended : List ℕ → Bool
-is_ended text = length (rest text) == 0
+is_ended [] = false
+is_ended (b ∷ bytes) = length (rest (b ∷ bytes)) == 0
 
--- a line feed, where something stands behind the last one
+-- a line feed, where a text does not end in one, the empty text too
 abbrev pub feed_behind : List ℕ → List ℕ
 feed_behind text = if is_ended text then [] else 10 ∷ []
 

@@ -90,17 +90,17 @@ fn edited_lines(alloc: Global, sets: &[Setting], text: &[u8]) -> Result<Bytes, N
     }
 }
 
-// Whether nothing stands behind the last line feed.
+// Whether a text ends in a line feed.
 fn is_ended(text: &[u8]) -> bool
     ensures { result ≡ edit.is_ended text.now }
 {
     match text {
-        [] => true,
+        [] => false,
         [.., last] => *last == b'\n',
     }
 }
 
-// Ends a text with a line feed, where something stands behind the last one.
+// Ends a text with a line feed, where it does not end in one, the empty text too.
 fn end_line(text: &mut Bytes) -> Result<(), NoMemory>
     ensures { OnOk result (text.new ≡ text.old ++ edit.feed_behind text.old) }
 {

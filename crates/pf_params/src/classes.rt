@@ -132,6 +132,23 @@ pub(crate) fn classes_of(
     Ok(classes)
 }
 
+impl Known {
+    /// Of this refusal, if there is one, and those of the classes of restrictions that are listed and set, the one whose name
+    /// is least in byte order, this one before that of a class of its name. A class is refused as C5, C4 or C16 where it has
+    /// no value, and as C6 where a brace in that has no partner (postconf(5), smtpd_restriction_classes).
+    pub fn class_refusal(
+        &self,
+        alloc: Global,
+        before: Option<Refused>,
+    ) -> Result<Option<Refused>, NoMemory>
+        ensures { IfOk result (λ refusal. refusal ≡ spec.first_refusal self.now before (spec.class_names self.now)) }
+    {
+        let names = class_names(alloc, self)?;
+        let classes = classes_of(alloc, self, names.as_slice(), before)?;
+        Ok(classes.refusal)
+    }
+}
+
 /// The class of a name.
 pub(crate) fn class_named<'a>(classes: &'a [Class], name: &[u8]) -> Option<&'a Class>
     ensures { option_copied result ≡ spec.class_named classes.now name.now }

@@ -12,9 +12,10 @@ use pf_maincf::{MainCf, Setting};
 use std::alloc::Global;
 use std::marker::Model;
 
-/// The name of the file and all settings in order, with what is known of the values of names.
+/// The settings of a main.cf and those that count after them, before any of them is looked at, with what is known of the
+/// values of names. A contract sees the name of the file and all settings in order.
 #[derive(Drop)]
-pub(crate) struct Known {
+pub struct Known {
     file: Bytes,
     settings: List<Setting>,
     values: Values,
@@ -51,8 +52,9 @@ fn add_settings(
 }
 
 impl Known {
-    /// The settings of a main.cf, and behind them those that count after them, which have line 0.
-    pub(crate) fn new(alloc: Global, main: &MainCf, over: &List<Setting>) -> Result<Known, NoMemory>
+    /// The settings of a main.cf, and behind them those that count after them, which have line 0 (postconf(5), main.cf
+    /// format; postconf(1), -o).
+    pub fn new(alloc: Global, main: &MainCf, over: &List<Setting>) -> Result<Known, NoMemory>
         ensures { IfOk result (λ known. known ≡ spec.settled main.now over.now) }
     {
         let mut settings = List::new(alloc);
@@ -70,14 +72,14 @@ impl Known {
     }
 
     /// The name of the file.
-    pub(crate) fn file(&self) -> &Bytes
+    pub fn file(&self) -> &Bytes
         ensures { result.now ≡ self.now.file }
     {
         &self.file
     }
 
-    /// The last setting of a name.
-    pub(crate) fn last(&self, name: &[u8]) -> Option<&Setting>
+    /// The last setting of a name, which is the one that counts; None where it is not set.
+    pub fn last(&self, name: &[u8]) -> Option<&Setting>
         ensures { option_copied result ≡ last_setting self.now.settings name.now }
     {
         self.settings

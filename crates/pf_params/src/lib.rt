@@ -9,4 +9,6 @@ mod refusals;
 mod settings;
 mod table;
 
+pub use known::Known;
+pub use readings::Reading;
 pub use settings::Settings;

@@ -11,13 +11,14 @@ use pf_catalogue::{
 };
 use std::alloc::Global;
 
-/// A parameter's line, 0 where it is not set, its text, its value, and what that says.
+/// What is read of a parameter: the line of its last setting, from 1, 0 where it stands in no file or is not set; its text
+/// before names are expanded; its value; and what that says.
 #[derive(Debug, Drop)]
-pub(crate) struct Reading {
-    pub(crate) line: u64,
-    pub(crate) raw: Bytes,
-    pub(crate) text: Bytes,
-    pub(crate) value: Value,
+pub struct Reading {
+    pub line: u64,
+    pub raw: Bytes,
+    pub text: Bytes,
+    pub value: Value,
 }
 
 // Whether a parameter of a kind may be as it is, set or not.
@@ -79,6 +80,24 @@ pub(crate) fn reading_of(
     match known.name_value(alloc, param_name(p))? {
         Err(flaw) => Ok(Err(cause_of(flaw))),
         Ok(text) => reading_with(alloc, known, p, text),
+    }
+}
+
+impl Known {
+    /// What is read of a parameter, whatever there is of the others, or the cause of its refusal: C5 where a dollar sign
+    /// begins no form, C4 where names are nested more than 100 deep, C16 where a value is longer than 1,048,576 bytes, C6
+    /// where the value is none of its kind, C14 where the parameter can't be set so (postconf(5)).
+    pub fn reading(&self, alloc: Global, p: Param) -> Result<Result<Reading, Cause>, NoMemory>
+        ensures { IfOk result (λ reading. reading ≡ spec.reading_of self.now (row_at p)) }
+    {
+        reading_of(alloc, self, p)
+    }
+
+    /// The refusal of a name's setting, with the line of the last one, 0 where it stands in no file or is not set.
+    pub fn refusal(&self, alloc: Global, name: &[u8], cause: Cause) -> Result<Refused, NoMemory>
+        ensures { IfOk result (λ refusal. refusal ≡ spec.refusal_of self.now name.now cause) }
+    {
+        refusal_of(alloc, self, name, cause)
     }
 }
 

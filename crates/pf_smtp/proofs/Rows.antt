@@ -29,6 +29,7 @@ use Rattle.pf_smtp.specs.declared.state.State.{State}
 abbrev site : Setup
 site = record {
   host = codes "mx.example.com";
+  banner = codes "mx.example.com ESMTP Postfix";
   policy = record {
     destinations = codes "example.com" ∷ [];
     networks = record { addr = 167772160; prefix = 8 } ∷ [];
@@ -358,9 +359,13 @@ reply_as_it_is_sent : text_of (codes "mx") (Helo Hello) ≡ codes "250 mx\r\n"
 unfolding text_of helo_text
 reply_as_it_is_sent = refl
 
-greeting : greeting_of (codes "mx.example.com") ≡ codes "220 mx.example.com ESMTP Postfix\r\n"
+greeting : greeting_of site.banner ≡ codes "220 mx.example.com ESMTP Postfix\r\n"
 unfolding greeting_of
 greeting = refl
+
+greeting_by_another_banner : greeting_of (codes "a b") ≡ codes "220 a b\r\n"
+unfolding greeting_of
+greeting_by_another_banner = refl
 
 -- log lines
 accepted_recipient : accepted_line 12 ann ≡ codes "12 RCPT <ann@Example.com> accept\n"

@@ -75,9 +75,9 @@ reply_text host (Quit reply) = quit_text reply
 unfoldable pub text_of : List ℕ → Reply → List ℕ
 text_of host reply = reply_text host reply ++ crlf
 
--- what a server says first (RFC 5321, 4.2)
+-- what a server says first: its banner behind the code (postconf(5), smtpd_banner; RFC 5321, 4.2)
 unfoldable pub greeting_of : List ℕ → List ℕ
-greeting_of host = joined (codes "220 " ∷ host ∷ codes " ESMTP Postfix" ∷ crlf ∷ [])
+greeting_of banner = joined (codes "220 " ∷ banner ∷ crlf ∷ [])
 
 -- a line of a message's record; no verb of today gives one
 abbrev pub record_text : RecordLine → List ℕ

@@ -166,10 +166,10 @@ impl Reply {
     }
 }
 
-/// Adds what the server says first.
+/// Adds what the server says first, with its line end; `banner` is what stands behind the code (postconf(5), smtpd_banner).
 #[tactic(auto, unfolding(crate::specs::Text::greeting_of))]
-pub(crate) fn print_greeting(host: &[u8], sent: &mut Bytes) -> Result<(), NoMemory>
-    ensures { OnOk result (sent.new ≡ sent.old ++ text.greeting_of host.now) }
+pub(crate) fn print_greeting(banner: &[u8], sent: &mut Bytes) -> Result<(), NoMemory>
+    ensures { OnOk result (sent.new ≡ sent.old ++ text.greeting_of banner.now) }
 {
-    sent.extend_all(&[b"220 ", host, b" ESMTP Postfix", b"\r\n"])
+    sent.extend_all(&[b"220 ", banner, b"\r\n"])
 }

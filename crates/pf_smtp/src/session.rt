@@ -109,12 +109,12 @@ impl Standing {
     }
 
     fn greet<O: Sink>(&self, alloc: Global, out: &mut O) -> Result<(), SessionFault>
-        ensures out { OnOk result (O.written out.new ≡ append_known (O.written out.old) (greeting_of self.now.setup.host)) }
-        ensures front { OnErr result (HoldsFront (O.written out.old) (O.written out.new) (greeting_of self.now.setup.host)) }
+        ensures out { OnOk result (O.written out.new ≡ append_known (O.written out.old) (greeting_of self.now.setup.banner)) }
+        ensures front { OnErr result (HoldsFront (O.written out.old) (O.written out.new) (greeting_of self.now.setup.banner)) }
         ensures cause { HasSessionCause (faults (O.faults out.old) 0 0) (faults (O.faults out.new) 0 0) result }
     {
         let mut text = Bytes::new(alloc);
-        let Ok(()) = print_greeting(self.setup.host.as_slice(), &mut text) else {
+        let Ok(()) = print_greeting(self.setup.banner.as_slice(), &mut text) else {
             return Err(SessionFault::NoMemory);
         };
         match out.write(text.as_slice()) {
@@ -140,15 +140,22 @@ impl Model for Session {
 }
 
 impl Session {
-    /// A session of the server of this name with the client of this IPv4 address, whose first number is its highest byte.
-    /// It takes no memory.
-    pub fn new(alloc: Global, host: Bytes, policy: PlainPolicy, client: u32) -> Session
-        ensures { result ≡ fresh (record { host = host; policy = policy; client = client }) }
+    /// A session of the server of this name and this banner with the client of this IPv4 address, whose first number is its
+    /// highest byte. The banner is sent as it stands, so the caller sees to it that it has no line end. It takes no memory.
+    pub fn new(
+        alloc: Global,
+        host: Bytes,
+        banner: Bytes,
+        policy: PlainPolicy,
+        client: u32,
+    ) -> Session
+        ensures { result ≡ fresh (record { host = host; banner = banner; policy = policy; client = client }) }
     {
         Session {
             standing: Standing {
                 setup: Setup {
                     host,
+                    banner,
                     policy,
                     client,
                 },
@@ -162,11 +169,12 @@ impl Session {
         }
     }
 
-    /// Says the greeting (RFC 5321, 4.2), once and first. After a fault a front of it was written, and the session is over.
+    /// Says the greeting, which is the banner behind its code (postconf(5), smtpd_banner; RFC 5321, 4.2), once and first. After
+    /// a fault a front of it was written, and the session is over.
     pub fn greet<O: Sink>(&mut self, alloc: Global, out: &mut O) -> Result<(), SessionFault>
         requires { self.old ≡ fresh self.old.setup }
-        ensures out { OnOk result (O.written out.new ≡ append_known (O.written out.old) (greeting_of self.old.setup.host)) }
-        ensures front { OnErr result (HoldsFront (O.written out.old) (O.written out.new) (greeting_of self.old.setup.host)) }
+        ensures out { OnOk result (O.written out.new ≡ append_known (O.written out.old) (greeting_of self.old.setup.banner)) }
+        ensures front { OnErr result (HoldsFront (O.written out.old) (O.written out.new) (greeting_of self.old.setup.banner)) }
         ensures same { OnOk result (self.new ≡ self.old) }
         ensures over { OnErr result (self.new.state.over ≡ true) }
         ensures cause { HasSessionCause (faults (O.faults out.old) 0 0) (faults (O.faults out.new) 0 0) result }

@@ -6,10 +6,12 @@ use crate::reply::Reply;
 use pf_base::{Bytes, List};
 use pf_eval::PlainPolicy;
 
-/// The server's name, its policy, and the client's IPv4 address, whose first number is its highest byte.
+/// The server's name, its banner, its policy, and the client's IPv4 address, whose first number is its highest byte. The banner
+/// is the bytes that the greeting has between its code with a space and its line end (postconf(5), smtpd_banner).
 #[derive(Debug, Drop)]
 pub struct Setup {
     pub host: Bytes,
+    pub banner: Bytes,
     pub policy: PlainPolicy,
     pub client: u32,
 }

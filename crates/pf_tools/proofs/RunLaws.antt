@@ -1,13 +1,17 @@
 -- A run by what was gathered and written.
-use Rattle.std.proofs.Common.{◌≡◌, ℕ, false, List, [], Option, refl, ap, subst, ◌∙◌}
+use Rattle.std.proofs.Common.{◌≡◌, ℕ, false, List, [], Option, Result, Ok, Err, inr, refl, ap, subst, ◌∙◌}
 use Rattle.std.specs.Io.KnownBytes.{append_known}
 use Rattle.pf_base.specs.Told.{HoldsFront}
 use Rattle.pf_base.specs.declared.pair.Pair.{Pair}
+use Rattle.pf_base.specs.declared.refused.ConfFault.{ConfFault}
+use Rattle.pf_base.specs.declared.refused.ConfFault.TheVariants as fault
 use Rattle.pf_tools.specs.Course.{Course, conf_name, ending_status, is_done, log_of, output_of}
 use Rattle.pf_tools.specs.Course.{Course as course}
 use Rattle.pf_tools.specs.Reports.{Reports}
-use Rattle.pf_tools.specs.Run.{CutOff, RunsThrough, world}
+use Rattle.pf_tools.specs.Run.{Completes, CutOff, RunsThrough, world}
 use Rattle.pf_tools.specs.declared.report.Report.{Report}
+use Rattle.pf_tools.specs.declared.said.Said.{Said}
+use Rattle.pf_tools.specs.declared.said.Said.TheVariants as said
 use Rattle.pf_words.specs.declared.postconf.ConfWords.{ConfWords}
 
 module _ (words : ConfWords) (before now : Option (List Pair)) (report : Report) (reports : Reports words before now report) where
@@ -41,3 +45,10 @@ module _ (words : ConfWords) (before now : Option (List Pair)) (report : Report)
     by_course (course.refuses refusal) output log = refl
     by_course course.unread output log = refl
     by_course (course.unreplaced text) output log = refl
+
+-- memory may be wanting whatever is said
+pub wanting_completes : (answer : Result Said ConfFault) → Completes answer 9
+wanting_completes (Ok (said.Printed lines warnings)) = inr refl
+wanting_completes (Ok (said.Edited text)) = inr refl
+wanting_completes (Err (fault.Refused refusal)) = inr refl
+wanting_completes (Err fault.NoMemory) = refl

@@ -25,8 +25,9 @@ pub(crate) enum FileFault {
     NoMemory,
 }
 
-/// The name of main.cf.
-pub(crate) fn conf_name(alloc: Global, folder: &Option<Bytes>) -> Result<Bytes, NoMemory>
+/// The name of main.cf in the folder of `-c`, as both stand, with `/` between them; `main.cf` alone where there is none
+/// (postconf(1), -c).
+pub fn conf_name(alloc: Global, folder: &Option<Bytes>) -> Result<Bytes, NoMemory>
     ensures { IfOk result (λ file. file ≡ course.conf_name folder.now) }
 {
     match folder {

@@ -12,4 +12,5 @@ mod say;
 mod top;
 mod values;
 
+pub use file::conf_name;
 pub use top::postconf;

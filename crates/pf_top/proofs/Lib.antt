@@ -1,6 +1,6 @@
-pub mod AddressLemmas
 pub mod CauseLemmas
+pub mod CommandLemmas
+pub mod FileLemmas
 pub mod OpeningLemmas
-pub mod Rows
 pub mod RunLemmas
 pub mod TalkLemmas

@@ -1,13 +1,13 @@
 -- What a run leaves, put together.
-use Rattle.std.proofs.Common.{◌≡◌, ℕ, List, Option, Some, inr, refl, sym, ap}
-use Rattle.std.specs.Prelude.{◌≢◌, ◌⊎◌, is_some}
+use Rattle.std.proofs.Common.{◌≡◌, ℕ, List, Option, Some, inr, refl}
+use Rattle.std.specs.Prelude.{◌≢◌, ◌⊎◌}
 use Rattle.pf_base.proofs.ToldLemmas.{front_none}
 use Rattle.pf_base.specs.declared.pair.Pair.{Pair}
 use Rattle.pf_base.specs.declared.refused.Refused.{Refused}
+use Rattle.pf_tools.specs.Course.{conf_name}
 use Rattle.pf_top.specs.Opened.{IsOpened}
-use Rattle.pf_top.specs.Run.{CutOff, IsRefused, Opens, SaysFront, ended_status, fault_status, opened_in, read_failed_line, refused_in}
+use Rattle.pf_top.specs.Smtpd.{CutOff, IsRefused, Opens, SaysFront, ended_status, fault_status, opened_in, read_failed_line, refused_in}
 use Rattle.pf_top.specs.Talk.{World}
-use Rattle.pf_top.specs.Words.{Options, options_of}
 use Rattle.pf_top.specs.declared.opening.Opened.{Opened}
 use Rattle.pf_top.specs.declared.opening.Opened.TheVariants as opened
 use Rattle.pf_top.specs.declared.opening.Opening.{Opening}
@@ -15,27 +15,24 @@ use Rattle.pf_top.specs.declared.talk.Ended.{Ended}
 use Rattle.pf_top.specs.declared.talk.Ended.TheVariants as ended
 use Rattle.pf_top.specs.declared.talk.TalkFault.{TalkFault}
 use Rattle.pf_top.specs.declared.talk.TalkFault.TheVariants as fault
+use Rattle.pf_words.specs.declared.smtpd.SmtpdWords.{SmtpdWords}
 
 -- main.cf was accepted
-abbrev pub opens : (words : List (List ℕ)) (content : Option (List Pair)) (options : Options) (opening : Opening) (answer : Opened)
-    → Some options ≡ options_of words → answer ≡ opened.Accepted opening
-    → ((files : List Pair) → content ≡ Some files → IsOpened (refused_in files) (opened_in files) answer) → Opens words content
-opens words content options opening answer formed is told = record {
-  options = options;
+abbrev pub opens : (words : SmtpdWords) (content : Option (List Pair)) (file : List ℕ) (opening : Opening) (answer : Opened)
+    → file ≡ conf_name words.folder → answer ≡ opened.Accepted opening
+    → ((files : List Pair) → content ≡ Some files → IsOpened (refused_in file files) (opened_in file files) answer) → Opens words content
+opens words content file opening answer named is told = record {
   opening = opening;
-  well_formed = sym formed;
-  accepted = λ files e. rw is at (told files e);
+  accepted = λ files e. rw (named, is) at (told files e);
 }
 
 -- main.cf was refused
-abbrev pub is_refused : (words : List (List ℕ)) (content : Option (List Pair)) (options : Options) (refusal : Refused) (answer : Opened)
-    → Some options ≡ options_of words → answer ≡ opened.Refused refusal
-    → ((files : List Pair) → content ≡ Some files → IsOpened (refused_in files) (opened_in files) answer) → IsRefused words content
-is_refused words content options refusal answer formed is told = record {
-  options = options;
+abbrev pub is_refused : (words : SmtpdWords) (content : Option (List Pair)) (file : List ℕ) (refusal : Refused) (answer : Opened)
+    → file ≡ conf_name words.folder → answer ≡ opened.Refused refusal
+    → ((files : List Pair) → content ≡ Some files → IsOpened (refused_in file files) (opened_in file files) answer) → IsRefused words content
+is_refused words content file refusal answer named is told = record {
   refusal = refusal;
-  well_formed = sym formed;
-  first = λ files e. rw is at (told files e);
+  first = λ files e. rw (named, is) at (told files e);
 }
 
 -- what a status says of how a session came to its end, and of its fault
@@ -57,11 +54,10 @@ input_is fault.Log is = cc
 input_is fault.NoMemory is = cc
 
 -- nothing was written, since memory was wanting before
-pub says_nothing : (words : List (List ℕ)) (content : Option (List Pair)) (before : World) (options : Options) → Some options ≡ options_of words
-    → CutOff words content before before ⊎ SaysFront words content before before
-says_nothing words content before options formed = inr (record {
-  line = read_failed_line;
-  is = inr (inr (ap is_some (sym formed), refl));
-  front = front_none before.sinks.log read_failed_line;
+pub says_nothing : (words : SmtpdWords) (content : Option (List Pair)) (before : World) → CutOff words content before before ⊎ SaysFront words content before before
+says_nothing words content before = inr (record {
+  line = read_failed_line (conf_name words.folder);
+  is = inr refl;
+  front = front_none before.sinks.log (read_failed_line (conf_name words.folder));
   rest = refl;
 })

@@ -1,10 +1,10 @@
-pub mod Address
+pub mod Nets
 pub mod Opened
 pub mod Opening
-pub mod OptionsMeant
+pub mod Profile
 pub mod Refusals
 pub mod Run
+pub mod Smtpd
 pub mod Talk
 pub mod Turns
 pub mod Values
-pub mod Words

@@ -1,143 +1,71 @@
--- What a run leaves, for each of its statuses, which are postgate's own, as are the lines that it says of itself.
-use Rattle.std.specs.Prelude.{◌≡◌, ◌⊎◌, ℕ, ◌==◌, ◌||◌, Bool, true, List, Option, Some, None, is_some, codes}
-use Rattle.std.specs.Io.KnownBytes.{append_known}
-use Rattle.pf_base.specs.Causes.{Rose}
-use Rattle.pf_base.specs.FileList.{file_of}
-use Rattle.pf_base.specs.Refusal.{refusal_line}
+-- What a run leaves, by the command that its words name. The statuses are postgate's own, as is the line that says how the program is used.
+use Rattle.std.specs.Prelude.{◌≡◌, ◌≢◌, ◌⊎◌, ℕ, ◌==◌, ◌||◌, Bool, true, false, List, Option, Some, codes}
 use Rattle.pf_base.specs.Told.{HoldsFront}
 use Rattle.pf_base.specs.declared.pair.Pair.{Pair}
-use Rattle.pf_base.specs.declared.refused.Refused.{Refused}
-use Rattle.pf_top.specs.Opening.{file_opened, setup_of}
-use Rattle.pf_top.specs.Refusals.{file_refusal}
-use Rattle.pf_top.specs.Talk.{World, TalksFront, TalksShort, TalksUntil}
-use Rattle.pf_top.specs.Words.{Options, options_of}
-use Rattle.pf_top.specs.declared.opening.Opening.{Opening}
-use Rattle.pf_top.specs.declared.talk.Ended.{Ended}
+use Rattle.pf_tools.specs.Course.{conf_name, said_in}
+use Rattle.pf_tools.specs.Run as postconf
+use Rattle.pf_top.specs.Smtpd as smtpd
+use Rattle.pf_top.specs.Smtpd.{Faults}
+use Rattle.pf_top.specs.Talk.{World}
 use Rattle.pf_top.specs.declared.talk.Ended.TheVariants as ended
-use Rattle.pf_top.specs.declared.talk.TalkFault.{TalkFault}
-use Rattle.pf_top.specs.declared.talk.TalkFault.TheVariants as fault
+use Rattle.pf_words.specs.Postconf.{is_edit}
+use Rattle.pf_words.specs.declared.postconf.ConfWords.{ConfWords}
+use Rattle.pf_words.specs.declared.smtpd.SmtpdWords.{SmtpdWords}
 
 -- how the program is used
 unfoldable pub usage_line : List ℕ
 usage_line = codes "usage: postgate smtpd|relaycheck|postconf|postmap|workload\n"
 
--- a call on the files failed while main.cf was read
-unfoldable pub read_failed_line : List ℕ
-read_failed_line = codes "postgate: main.cf: read failed\n"
+-- what the objects outside told, and the counts of their faults
+pub record Objects : Type 0 where
+  pub world : World
+  pub files : Option (List Pair)
+  pub faults : Faults
 
--- what the file main.cf says, where the files tell
-abbrev pub opened_in : List Pair → Option Opening
-opened_in files = file_opened (file_of files (codes "main.cf"))
+abbrev pub objects : World → Option (List Pair) → Faults → Objects
+objects world files faults = record { world = world; files = files; faults = faults }
 
--- the first refusal of the file main.cf, where the files tell
-abbrev pub refused_in : List Pair → Option Refused
-refused_in files = file_refusal (file_of files (codes "main.cf"))
+-- words of no form: at most a front of the usage line was written to the log, with status 2 all of it, and nothing else was touched
+pub record Unformed (before now : Objects) (status : ℕ) : Type 0 where
+  pub said : status ≡ 2 → now.world ≡ smtpd.logged before.world usage_line
+  pub front : HoldsFront before.world.sinks.log now.world.sinks.log usage_line
+  pub rest : now.world ≡ record before.world { sinks = record before.world.sinks { log = now.world.sinks.log } }
+  pub files : now.files ≡ before.files
+  pub known : (status ≡ 2) ⊎ (status ≡ 7) ⊎ (status ≡ 9)
 
--- the log took a line, and nothing was taken from the input or written to the other sinks
-abbrev pub logged : World → List ℕ → World
-logged before line = record before { sinks = record before.sinks { log = append_known before.sinks.log line } }
+-- words of smtpd
+pub record SmtpdRun (words : SmtpdWords) (before now : Objects) (status : ℕ) : Type 0 where
+  pub done : status ≡ 0 → smtpd.Served words before.files before.world now.world (λ how. how ≢ ended.AtBudget)
+  pub budget : status ≡ 10 → smtpd.Served words before.files before.world now.world (λ how. how ≡ ended.AtBudget)
+  pub broken : status ≡ 4 → smtpd.BrokenOff words before.files before.world now.world
+  pub refused : status ≡ 3 → smtpd.Refuses words before.files before.world now.world
+  pub unread : status ≡ 8 → now.world ≡ smtpd.logged before.world (smtpd.read_failed_line (conf_name words.folder))
+  pub cut : smtpd.is_cut status ≡ true
+      → smtpd.CutOff words before.files before.world now.world ⊎ smtpd.SaysFront words before.files before.world now.world
+  pub complete : (files : List Pair) → before.files ≡ Some files → smtpd.NoneRose before.faults now.faults
+      → smtpd.Completes (smtpd.refused_in (conf_name words.folder) files) status
+  pub mail : now.world.sinks.mail ≡ before.world.sinks.mail
+  pub files : now.files ≡ before.files
+  pub known : smtpd.is_status status ≡ true
 
--- the words are well-formed and main.cf is accepted: the session that they set up
-pub record Opens (words : List (List ℕ)) (content : Option (List Pair)) : Type 0 where
-  pub options : Options
-  pub opening : Opening
-  pub well_formed : options_of words ≡ Some options
-  pub accepted : (files : List Pair) → content ≡ Some files → (refused_in files ≡ None) × (opened_in files ≡ Some opening)
+-- what postconf sees of the objects
+abbrev pub postconf_world : Objects → postconf.World
+postconf_world o = postconf.world o.world.sinks.out o.world.sinks.log o.files
 
--- the session of the bytes that were taken was talked to its end
-pub record Served (words : List (List ℕ)) (content : Option (List Pair)) (before now : World) (which : Ended → Type 0) : Type 0 where
-  pub opens : Opens words content
-  pub how : Ended
-  pub ended : which how
-  pub talks : TalksUntil (setup_of opens.opening opens.options.client) before now how
+abbrev pub postconf_faults : Objects → postconf.Faults
+postconf_faults o = postconf.faults o.faults.out o.faults.log o.faults.files
 
--- the session was broken off by its input
-pub record BrokenOff (words : List (List ℕ)) (content : Option (List Pair)) (before now : World) : Type 0 where
-  pub opens : Opens words content
-  pub talks : TalksShort (setup_of opens.opening opens.options.client) before now
-
--- the session was broken off by a sink or by want of memory
-pub record CutOff (words : List (List ℕ)) (content : Option (List Pair)) (before now : World) : Type 0 where
-  pub opens : Opens words content
-  pub talks : TalksFront (setup_of opens.opening opens.options.client) before now
-
--- the words are of another form, and the log has the usage line
-pub record SaysUsage (words : List (List ℕ)) (before now : World) : Type 0 where
-  pub malformed : options_of words ≡ None
-  pub said : now ≡ logged before usage_line
-
--- the words are well-formed and main.cf is refused
-pub record IsRefused (words : List (List ℕ)) (content : Option (List Pair)) : Type 0 where
-  pub options : Options
-  pub refusal : Refused
-  pub well_formed : options_of words ≡ Some options
-  pub first : (files : List Pair) → content ≡ Some files → refused_in files ≡ Some refusal
-
--- main.cf is refused, and the log has the line of its first refusal
-pub record Refuses (words : List (List ℕ)) (content : Option (List Pair)) (before now : World) : Type 0 where
-  pub refused : IsRefused words content
-  pub said : now ≡ logged before (refusal_line refused.refusal)
-
--- the line that a run without a session says of itself
-abbrev pub IsOwnLine : List (List ℕ) → Option (List Pair) → List ℕ → Type 0
-IsOwnLine words content line =
-    ((options_of words ≡ None) × (line ≡ usage_line))
-    ⊎ ((refused : IsRefused words content) × (line ≡ refusal_line refused.refusal))
-    ⊎ ((is_some (options_of words) ≡ true) × (line ≡ read_failed_line))
-
--- there was no session, and at most a front of the run's own line was written
-pub record SaysFront (words : List (List ℕ)) (content : Option (List Pair)) (before now : World) : Type 0 where
-  pub line : List ℕ
-  pub is : IsOwnLine words content line
-  pub front : HoldsFront before.sinks.log now.sinks.log line
-  pub rest : now ≡ record before { sinks = record before.sinks { log = now.sinks.log } }
-
--- the counts of faults of the objects that can fail
-pub record Faults : Type 0 where
-  pub input : ℕ
-  pub out : ℕ
-  pub mail : ℕ
-  pub log : ℕ
-  pub files : ℕ
-
--- of the input, the output, the record of messages, the log and the files
-abbrev pub faults : ℕ → ℕ → ℕ → ℕ → ℕ → Faults
-faults input out mail log files = record { input = input; out = out; mail = mail; log = log; files = files }
-
--- no count rose
-pub record NoneRose (before now : Faults) : Type 0 where
-  pub input : Rose before.input now.input → ⊥
-  pub out : Rose before.out now.out → ⊥
-  pub mail : Rose before.mail now.mail → ⊥
-  pub log : Rose before.log now.log → ⊥
-  pub files : Rose before.files now.files → ⊥
-
--- the statuses of well-formed words by the first refusal of main.cf, where no count rose: 9 is free
-abbrev pub Completes : Option Refused → ℕ → Type 0
-Completes None status = (status ≡ 0) ⊎ (status ≡ 10) ⊎ (status ≡ 9)
-Completes (Some refusal) status = (status ≡ 3) ⊎ (status ≡ 9)
-
--- the status of a session by how it came to its end, and by the fault that broke it off
-abbrev pub ended_status : Ended → ℕ
-ended_status ended.AtEnd = 0
-ended_status ended.AtOver = 0
-ended_status ended.AtBudget = 10
-
-abbrev pub fault_status : TalkFault → ℕ
-fault_status fault.Input = 4
-fault_status fault.Out = 5
-fault_status fault.Mail = 6
-fault_status fault.Log = 7
-fault_status fault.NoMemory = 9
-
--- a sink failed or memory was wanting
-abbrev pub is_cut : ℕ → Bool
-is_cut n = n == 5 || n == 6 || n == 7 || n == 9
+-- words of postconf
+pub record PostconfRun (words : ConfWords) (before now : Objects) (status : ℕ) : Type 0 where
+  pub through : postconf.is_through status ≡ true → postconf.RunsThrough words (postconf_world before) (postconf_world now) status
+  pub cut : postconf.is_cut status ≡ true → postconf.CutOff words (postconf_world before) (postconf_world now)
+  pub complete : (files : List Pair) → before.files ≡ Some files → postconf.NoneRose (postconf_faults before) (postconf_faults now)
+      → postconf.Completes (said_in words files) status
+  pub content : is_edit words.mode ≡ false → now.files ≡ before.files
+  pub output : is_edit words.mode ≡ true → now.world.sinks.out ≡ before.world.sinks.out
+  pub rest : (now.world.input ≡ before.world.input) × (now.world.sinks.mail ≡ before.world.sinks.mail)
+  pub known : postconf.is_status status ≡ true
 
 -- no call on an object failed
 abbrev pub is_without_fault : ℕ → Bool
-is_without_fault n = n == 0 || n == 2 || n == 3 || n == 10
-
--- the statuses that a run answers
-abbrev pub is_status : ℕ → Bool
-is_status n = is_without_fault n || is_cut n || n == 4 || n == 8
+is_without_fault n = n == 0 || n == 1 || n == 2 || n == 3 || n == 10

@@ -1,4 +1,4 @@
--- A session over the input: what is taken, what is written, and how it ends. The limit of the input is postgate's own.
+-- A session over the input: what is taken, what is written, and how it ends. That the input has a budget is postgate's own.
 use Rattle.std.specs.Prelude.{◌≡◌, ℕ, ◌<◌, ◌≤◌, ◌++◌, true, false, List, Option, Result, OnOk, IsErrOf, length}
 use Rattle.std.specs.Io.KnownBytes.{append_known, prepend_known, IsAtEnd}
 use Rattle.pf_base.specs.Causes.{Rose}
@@ -21,13 +21,9 @@ pub record World : Type 0 where
 abbrev pub world : Option (List ℕ) → Option (List ℕ) → Option (List ℕ) → Option (List ℕ) → World
 world input out mail log = record { input = input; sinks = told out mail log }
 
--- the most bytes that are taken
-abbrev pub budget : ℕ
-budget = 4294967296
-
 -- all that a session replies for these bytes
 abbrev pub replies_to : Setup → List ℕ → List ℕ
-replies_to setup taken = greeting_of setup.host ++ replies_text setup (session setup taken)
+replies_to setup taken = greeting_of setup.banner ++ replies_text setup (session setup taken)
 
 -- all record lines
 abbrev pub records_of : Setup → List ℕ → List ℕ
@@ -46,23 +42,23 @@ pub record Talks (setup : Setup) (before now : World) : Type 0 where
   pub log : now.sinks.log ≡ append_known before.sinks.log (log_of setup taken)
 
 -- nothing is left, before the budget was taken; the session of these bytes is over; or their number is the budget
-abbrev pub SessionEndsAs : Setup → World → List ℕ → Ended → Type 0
-SessionEndsAs setup now taken ended.AtEnd = IsAtEnd now.input × (length taken < budget)
-SessionEndsAs setup now taken ended.AtOver = ((session setup taken).next.over ≡ true) × (length taken ≤ budget)
-SessionEndsAs setup now taken ended.AtBudget = (length taken ≡ budget) × ((session setup taken).next.over ≡ false)
+abbrev pub SessionEndsAs : Setup → ℕ → World → List ℕ → Ended → Type 0
+SessionEndsAs setup budget now taken ended.AtEnd = IsAtEnd now.input × (length taken < budget)
+SessionEndsAs setup budget now taken ended.AtOver = ((session setup taken).next.over ≡ true) × (length taken ≤ budget)
+SessionEndsAs setup budget now taken ended.AtBudget = (length taken ≡ budget) × ((session setup taken).next.over ≡ false)
 
--- a whole session
-pub record TalksUntil (setup : Setup) (before now : World) (how : Ended) : Type 0 where
+-- a whole session that may take so many bytes
+pub record TalksUntil (setup : Setup) (budget : ℕ) (before now : World) (how : Ended) : Type 0 where
   pub talks : Talks setup before now
-  pub ends : SessionEndsAs setup now talks.taken how
+  pub ends : SessionEndsAs setup budget now talks.taken how
 
 -- a session whose input broke off before the budget was taken
-pub record TalksShort (setup : Setup) (before now : World) : Type 0 where
+pub record TalksShort (setup : Setup) (budget : ℕ) (before now : World) : Type 0 where
   pub talks : Talks setup before now
   pub short : length talks.taken < budget
 
 -- a session that a sink or want of memory broke off: each sink holds a front of what the session gives for the bytes that were taken
-pub record TalksFront (setup : Setup) (before now : World) : Type 0 where
+pub record TalksFront (setup : Setup) (budget : ℕ) (before now : World) : Type 0 where
   pub taken : List ℕ
   pub within : length taken ≤ budget
   pub input : before.input ≡ prepend_known taken now.input

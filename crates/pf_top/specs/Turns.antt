@@ -3,7 +3,7 @@ use Rattle.std.specs.Prelude.{◌≡◌, ℕ, ◌<◌, ◌≤◌, true, false, L
 use Rattle.std.specs.Io.KnownBytes.{prepend_known, IsAtEnd}
 use Rattle.pf_smtp.specs.Feeding.{Took, TookFront}
 use Rattle.pf_smtp.specs.declared.standing.Standing.{Standing}
-use Rattle.pf_top.specs.Talk.{World, budget}
+use Rattle.pf_top.specs.Talk.{World}
 use Rattle.pf_top.specs.declared.talk.Turn.{Turn}
 use Rattle.pf_top.specs.declared.talk.Turn.TheVariants as turn
 use Rattle.pf_top.specs.declared.talk.Ended.{Ended}
@@ -28,7 +28,7 @@ pub record PassedFront (before now : World) (old : Standing) (most : ℕ) : Type
   pub front : TookFront before.sinks now.sinks old taken
 
 -- bytes passed, fewer than the budget
-pub record PassedShort (before now : World) (old new : Standing) : Type 0 where
+pub record PassedShort (before now : World) (old new : Standing) (budget : ℕ) : Type 0 where
   pub passed : Passed before now old new
   pub short : length passed.taken < budget
 
@@ -45,12 +45,12 @@ AtMost most (turn.More count) = (0 < count) × (count ≤ most)
 AtMost most (turn.Over count) = (0 < count) × (count ≤ most)
 
 -- how the bytes of a session came to an end
-abbrev pub EndsAs : World → List ℕ → Standing → Ended → Type 0
-EndsAs now taken new ended.AtEnd = IsAtEnd now.input × (length taken < budget)
-EndsAs now taken new ended.AtOver = (new.state.over ≡ true) × (length taken ≤ budget)
-EndsAs now taken new ended.AtBudget = (length taken ≡ budget) × (new.state.over ≡ false)
+abbrev pub EndsAs : ℕ → World → List ℕ → Standing → Ended → Type 0
+EndsAs budget now taken new ended.AtEnd = IsAtEnd now.input × (length taken < budget)
+EndsAs budget now taken new ended.AtOver = (new.state.over ≡ true) × (length taken ≤ budget)
+EndsAs budget now taken new ended.AtBudget = (length taken ≡ budget) × (new.state.over ≡ false)
 
 -- bytes passed until they came to an end
-pub record Serves (before now : World) (old new : Standing) (how : Ended) : Type 0 where
+pub record Serves (before now : World) (old new : Standing) (budget : ℕ) (how : Ended) : Type 0 where
   pub passed : Passed before now old new
-  pub ends : EndsAs now passed.taken new how
+  pub ends : EndsAs budget now passed.taken new how

@@ -1,26 +1,13 @@
--- The values of the four parameters (postconf(5): myhostname, mydestination, mynetworks, smtpd_relay_restrictions).
-use Rattle.std.specs.Prelude.{ℕ, ◌==◌, ◌||◌, Bool, true, false, nat_lt, List, [], ◌∷◌, Option, Some, None, length, codes, if◌then◌else◌}
-use Rattle.std.specs.List.{filter, list_any, slice_split}
-use Rattle.std.specs.Option.{option_and_then, option_map}
+-- What the values of a session's parameters say (postconf(5): myhostname, mydestination, mynetworks, smtpd_relay_restrictions).
+use Rattle.std.specs.Prelude.{ℕ, Bool, true, false, nat_lt, List, Option, Some, None, length, codes, if◌then◌else◌}
+use Rattle.std.specs.List.{list_any}
+use Rattle.std.specs.Option.{option_and_then}
 use Rattle.pf_base.specs.Names.{is_host_name, same_in_any_case}
-use Rattle.pf_base.specs.Space.{is_space}
 use Rattle.pf_eval.specs.Nets.{Net}
 use Rattle.pf_eval.specs.declared.policy.PlainItem.{PlainItem}
 use Rattle.pf_eval.specs.declared.policy.PlainItem.TheVariants.{PermitMynetworks, RejectUnauthDestination}
-use Rattle.pf_top.specs.Address.{net_of}
-
--- the items of a value are parted by space and commas
-abbrev pub is_separator : ℕ → Bool
-is_separator b = is_space b || b == 44
-
--- what stands between them, where it is not empty
-abbrev pub items_of : List ℕ → List (List ℕ)
-items_of value = filter (λ item. nat_lt 0 (length item)) (slice_split is_separator value)
-
--- what each item is, where each is something
-abbrev pub all_of : {A : Type 0} → (List ℕ → Option A) → List (List ℕ) → Option (List A)
-all_of f [] = Some []
-all_of f (item ∷ items) = option_and_then (λ first. option_map (λ others. first ∷ others) (all_of f items)) (f item)
+use Rattle.pf_top.specs.Nets.{net_of}
+use Rattle.pf_words.specs.Sets.{all_of}
 
 -- the items, where there is at least one
 abbrev pub one_or_more : {A : Type 0} → List A → Option (List A)
@@ -31,12 +18,12 @@ unfoldable pub host_of : List ℕ → Option (List ℕ)
 host_of value = if is_host_name value then Some value else None
 
 -- mydestination: one or more host names
-unfoldable pub hosts_of : List ℕ → Option (List (List ℕ))
-hosts_of value = option_and_then one_or_more (all_of host_of (items_of value))
+unfoldable pub hosts_of : List (List ℕ) → Option (List (List ℕ))
+hosts_of items = option_and_then one_or_more (all_of host_of items)
 
 -- mynetworks: one or more networks
-unfoldable pub nets_of : List ℕ → Option (List Net)
-nets_of value = option_and_then one_or_more (all_of net_of (items_of value))
+unfoldable pub nets_of : List (List ℕ) → Option (List Net)
+nets_of items = option_and_then one_or_more (all_of net_of items)
 
 -- smtpd_relay_restrictions: restrictions, their words in any case
 unfoldable pub restriction_of : List ℕ → Option PlainItem
@@ -55,5 +42,5 @@ abbrev pub closed_list : List PlainItem → Option (List PlainItem)
 closed_list items = if list_any is_closing items then Some items else None
 
 -- smtpd_relay_restrictions: restrictions that close the list
-unfoldable pub relay_of : List ℕ → Option (List PlainItem)
-relay_of value = option_and_then closed_list (all_of restriction_of (items_of value))
+unfoldable pub relay_of : List (List ℕ) → Option (List PlainItem)
+relay_of items = option_and_then closed_list (all_of restriction_of items)

@@ -1,15 +1,15 @@
-//! The top call: words, main.cf, and a session from the input to its end.
+//! The top call: the words, and then the job of the command that they name.
 #![tactic(auto)]
 
-mod address;
-mod items;
+mod nets;
 mod opening;
+mod profile;
 mod refusal;
+mod smtpd;
 mod talk;
 mod top;
 mod values;
-mod words;
 
 pub use opening::Opening;
+pub use pf_words::{SinkNames, sink_names};
 pub use top::run;
-pub use words::{SinkNames, sink_names};

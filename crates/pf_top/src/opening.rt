@@ -1,25 +1,27 @@
 //! What main.cf says, where it is accepted.
-ghost use Rattle.std.specs.Prelude.{◌≡◌, IfOk, codes};
+ghost use Rattle.std.specs.Prelude.{◌≡◌, [], IfOk, codes};
 ghost use Rattle.pf_maincf.specs.Settings.{conf_of};
+ghost use Rattle.pf_params.specs.Parameters as parameters;
 ghost use Rattle.pf_top.specs.Opened.{IsOpened};
 ghost use Rattle.pf_top.specs.Opening as opening;
-ghost use Rattle.pf_top.specs.Refusals.{conf_refusal, refused, settings_refusal};
+ghost use Rattle.pf_top.specs.Refusals.{conf_refusal, settings_refusal};
+ghost use Rattle.pf_top.specs.Refusals as refusals;
 ghost use Rattle.pf_top.specs.Values as values;
 
-use crate::refusal::{refused, settings_refusal};
+use crate::refusal::{settings_refusal, whole_refused};
 use crate::values::{host_of, hosts_of, nets_of, relay_of};
 use pf_base::{Bytes, Cause, ConfFault, List, NoMemory, Refused};
+use pf_catalogue::{Value, param};
 use pf_eval::{PlainItem, PlainNet, PlainPolicy};
-use pf_maincf::{MainCf, Setting};
+use pf_maincf::MainCf;
+use pf_params::{Known, Reading};
 use std::alloc::Global;
 
-/// The name of the file.
-pub(crate) const MAIN_CF: &str = "main.cf";
-
-/// What an accepted main.cf says: the server's name and its policy (postconf(5)).
+/// What an accepted main.cf says: the server's name, the banner of its greeting, and its policy (postconf(5)).
 #[derive(Debug, Drop)]
 pub struct Opening {
     pub host: Bytes,
+    pub banner: Bytes,
     pub policy: PlainPolicy,
 }
 
@@ -30,84 +32,123 @@ pub(crate) enum Opened {
     Refused(Refused),
 }
 
-/// Whether a setting is one of the four parameters.
-pub(crate) fn is_in_profile(setting: &Setting) -> bool
-    ensures { result ≡ opening.is_in_profile setting.now }
+// What is read of the parameter of a name, where it is not refused.
+#[tactic(auto, unfolding(crate::specs::Opening::reading_named))]
+fn reading_named(alloc: Global, known: &Known, name: &[u8]) -> Result<Option<Reading>, NoMemory>
+    ensures { IfOk result (λ reading. reading ≡ opening.reading_named known.now name.now) }
 {
-    let name = setting.name.as_slice();
-    name == b"mydestination".as_slice()
-        || name == b"myhostname".as_slice()
-        || name == b"mynetworks".as_slice()
-        || name == b"smtpd_relay_restrictions".as_slice()
-}
-
-fn destinations_in(alloc: Global, conf: &MainCf) -> Result<Option<List<Bytes>>, NoMemory>
-    ensures { IfOk result (λ value. value ≡ opening.value_in conf.now.settings (codes "mydestination") values.hosts_of) }
-{
-    match conf.last(b"mydestination") {
-        None => Ok(None),
-        Some(setting) => hosts_of(alloc, setting.value.as_slice()),
+    let Some(p) = param(name) else {
+        return Ok(None);
+    };
+    match known.reading(alloc, p)? {
+        Ok(reading) => Ok(Some(reading)),
+        Err(_) => Ok(None),
     }
 }
 
-fn host_in(alloc: Global, conf: &MainCf) -> Result<Option<Bytes>, NoMemory>
-    ensures { IfOk result (λ value. value ≡ opening.value_in conf.now.settings (codes "myhostname") values.host_of) }
+// The value of the parameter of a name.
+fn text_named(alloc: Global, known: &Known, name: &[u8]) -> Result<Bytes, NoMemory>
+    ensures { IfOk result (λ text. text ≡ opening.text_named known.now name.now) }
 {
-    match conf.last(b"myhostname") {
-        None => Ok(None),
-        Some(setting) => host_of(alloc, setting.value.as_slice()),
+    match reading_named(alloc, known, name)? {
+        None => Ok(Bytes::new(alloc)),
+        Some(reading) => Ok(reading.text),
     }
 }
 
-fn networks_in(alloc: Global, conf: &MainCf) -> Result<Option<List<PlainNet>>, NoMemory>
-    ensures { IfOk result (λ value. value ≡ opening.value_in conf.now.settings (codes "mynetworks") values.nets_of) }
+// The items of a value, none where it is no list.
+fn items_in(alloc: Global, value: Value) -> List<Bytes>
+    ensures { result ≡ parameters.items_in value }
 {
-    match conf.last(b"mynetworks") {
-        None => Ok(None),
-        Some(setting) => nets_of(alloc, setting.value.as_slice()),
+    match value {
+        Value::Items(items) => items,
+        Value::Text => List::new(alloc),
+        Value::Number(_) => List::new(alloc),
+        Value::Yes(_) => List::new(alloc),
     }
 }
 
-fn relay_in(alloc: Global, conf: &MainCf) -> Result<Option<List<PlainItem>>, NoMemory>
-    ensures { IfOk result (λ value. value ≡ opening.value_in conf.now.settings (codes "smtpd_relay_restrictions") values.relay_of) }
+/// The items of the value of the parameter of a name.
+pub(crate) fn items_named(
+    alloc: Global,
+    known: &Known,
+    name: &[u8],
+) -> Result<List<Bytes>, NoMemory>
+    ensures { IfOk result (λ items. items ≡ opening.items_named known.now name.now) }
 {
-    match conf.last(b"smtpd_relay_restrictions") {
-        None => Ok(None),
-        Some(setting) => relay_of(alloc, setting.value.as_slice()),
+    match reading_named(alloc, known, name)? {
+        None => Ok(List::new(alloc)),
+        Some(reading) => Ok(items_in(alloc, reading.value)),
     }
 }
 
-// What the four parameters say, where each is set and has its form.
-#[tactic(auto, unfolding(crate::specs::Opening::values_opened))]
-fn values_opened(alloc: Global, conf: &MainCf) -> Result<Option<Opening>, NoMemory>
-    ensures { IfOk result (λ says. says ≡ opening.values_opened conf.now.settings) }
+fn destinations_in(alloc: Global, known: &Known) -> Result<Option<List<Bytes>>, NoMemory>
+    ensures { IfOk result (λ hosts. hosts ≡ values.hosts_of (opening.items_named known.now (codes "mydestination"))) }
 {
-    let Some(destinations) = destinations_in(alloc, conf)? else {
+    let items = items_named(alloc, known, b"mydestination")?;
+    hosts_of(alloc, items.as_slice())
+}
+
+fn networks_in(alloc: Global, known: &Known) -> Result<Option<List<PlainNet>>, NoMemory>
+    ensures { IfOk result (λ networks. networks ≡ values.nets_of (opening.items_named known.now (codes "mynetworks"))) }
+{
+    let items = items_named(alloc, known, b"mynetworks")?;
+    nets_of(alloc, items.as_slice())
+}
+
+fn relay_in(alloc: Global, known: &Known) -> Result<Option<List<PlainItem>>, NoMemory>
+    ensures { IfOk result (λ relay. relay ≡ values.relay_of (opening.items_named known.now (codes "smtpd_relay_restrictions"))) }
+{
+    let items = items_named(alloc, known, b"smtpd_relay_restrictions")?;
+    relay_of(alloc, items.as_slice())
+}
+
+// The relay policy, where the values have their forms.
+fn policy_of(alloc: Global, known: &Known) -> Result<Option<PlainPolicy>, NoMemory>
+    ensures { IfOk result (λ policy. policy ≡ opening.policy_of known.now) }
+{
+    let Some(destinations) = destinations_in(alloc, known)? else {
         return Ok(None);
     };
-    let Some(host) = host_in(alloc, conf)? else {
+    let Some(networks) = networks_in(alloc, known)? else {
         return Ok(None);
     };
-    let Some(networks) = networks_in(alloc, conf)? else {
+    let Some(relay) = relay_in(alloc, known)? else {
         return Ok(None);
     };
-    let Some(relay) = relay_in(alloc, conf)? else {
-        return Ok(None);
-    };
-    let policy = PlainPolicy {
+    Ok(Some(PlainPolicy {
         destinations,
         networks,
         relay,
-    };
-    Ok(Some(Opening { host, policy }))
+    }))
 }
 
-fn settings_opened(alloc: Global, conf: &MainCf) -> Result<Opened, NoMemory>
-    ensures { IfOk result (IsOpened (settings_refusal conf.now.settings) (opening.values_opened conf.now.settings)) }
+// What settings say of a session, where the values have their forms.
+#[tactic(auto, unfolding(crate::specs::Opening::opening_of))]
+fn opening_of(alloc: Global, known: &Known) -> Result<Option<Opening>, NoMemory>
+    ensures { IfOk result (λ says. says ≡ opening.opening_of known.now) }
 {
-    match settings_refusal(alloc, conf)? {
+    let name = text_named(alloc, known, b"myhostname")?;
+    let Some(host) = host_of(alloc, name.as_slice())? else {
+        return Ok(None);
+    };
+    let Some(policy) = policy_of(alloc, known)? else {
+        return Ok(None);
+    };
+    let banner = text_named(alloc, known, b"smtpd_banner")?;
+    Ok(Some(Opening {
+        host,
+        banner,
+        policy,
+    }))
+}
+
+fn settings_opened(alloc: Global, known: &Known) -> Result<Opened, NoMemory>
+    ensures { IfOk result (IsOpened (settings_refusal known.now) (opening.opening_of known.now)) }
+{
+    match settings_refusal(alloc, known)? {
         Some(refusal) => Ok(Opened::Refused(refusal)),
-        None => match values_opened(alloc, conf)? {
+        None => match opening_of(alloc, known)? {
             Some(opening) => Ok(Opened::Accepted(opening)),
             // Settings that no check refuses say something.
             None => unreachable!(),
@@ -115,20 +156,23 @@ fn settings_opened(alloc: Global, conf: &MainCf) -> Result<Opened, NoMemory>
     }
 }
 
-/// The refusal of the file itself, which has no name in it and no line.
-pub(crate) fn refused_as(alloc: Global, cause: Cause) -> Result<Opened, NoMemory>
-    ensures { IfOk result (λ opened. opened ≡ Opened.Refused (refused 0 cause (codes "main.cf"))) }
+/// The refusal of the file itself.
+pub(crate) fn file_refused(alloc: Global, file: &[u8], cause: Cause) -> Result<Opened, NoMemory>
+    ensures { IfOk result (λ opened. opened ≡ Opened.Refused (refusals.whole_refused file.now cause)) }
 {
-    let refusal = refused(alloc, 0, cause, MAIN_CF.as_bytes())?;
+    let refusal = whole_refused(alloc, file, cause)?;
     Ok(Opened::Refused(refusal))
 }
 
-/// What becomes of a main.cf of this text.
-pub(crate) fn text_opened(alloc: Global, text: &[u8]) -> Result<Opened, NoMemory>
-    ensures { IfOk result (IsOpened (conf_refusal (conf_of (codes "main.cf") text.now)) (opening.conf_opened (conf_of (codes "main.cf") text.now))) }
+/// What becomes of a main.cf of this name and text.
+pub(crate) fn text_opened(alloc: Global, file: &[u8], text: &[u8]) -> Result<Opened, NoMemory>
+    ensures { IfOk result (IsOpened (conf_refusal (conf_of file.now text.now)) (opening.conf_opened (conf_of file.now text.now))) }
 {
-    match MainCf::read(alloc, MAIN_CF.as_bytes(), text) {
-        Ok(conf) => settings_opened(alloc, &conf),
+    match MainCf::read(alloc, file, text) {
+        Ok(conf) => {
+            let known = Known::new(alloc, &conf, &List::new(alloc))?;
+            settings_opened(alloc, &known)
+        }
         Err(ConfFault::Refused(refusal)) => Ok(Opened::Refused(refusal)),
         Err(ConfFault::NoMemory) => Err(NoMemory),
     }

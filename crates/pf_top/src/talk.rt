@@ -2,16 +2,13 @@
 ghost use Rattle.std.specs.Prelude.{◌≡◌, ◌<◌, ◌≤◌, Err, true, false, length, IfOk, OnErr};
 ghost use Rattle.pf_smtp.specs.Feeding.{fresh};
 ghost use Rattle.pf_top.specs.Opening.{setup_of};
-ghost use Rattle.pf_top.specs.Talk.{HasTalkCause, TalksFront, TalksShort, TalksUntil, budget, counts, world};
+ghost use Rattle.pf_top.specs.Talk.{HasTalkCause, TalksFront, TalksShort, TalksUntil, counts, world};
 ghost use Rattle.pf_top.specs.Turns.{AtMost, IsTurn, PassedFront, PassedShort, Serves};
 
 use crate::opening::Opening;
 use pf_base::{Failed, Sink, Source};
 use pf_smtp::{Going, Session, SessionFault};
 use std::alloc::Global;
-
-/// The most bytes that a run takes.
-const BUDGET: u64 = 4_294_967_296;
 
 // The most bytes of one read.
 const PIECE: u64 = 4096;
@@ -79,10 +76,11 @@ fn take_turn<S: Source, O: Sink, M: Sink, J: Sink>(
     }
 }
 
-// Feeds the input to a session that has not begun, to its end, to the end of the session, or up to the budget.
+// Feeds the input to a session that has not begun, to its end, to the end of the session, or up to a budget of bytes.
 fn serve<S: Source, O: Sink, M: Sink, J: Sink>(
     alloc: Global,
     session: &mut Session,
+    budget: u64,
     input: &mut S,
     out: &mut O,
     mail: &mut M,
@@ -90,9 +88,9 @@ fn serve<S: Source, O: Sink, M: Sink, J: Sink>(
 ) -> Result<Ended, TalkFault>
     requires { session.old ≡ fresh session.old.setup }
     ensures serves { IfOk result (Serves (world (S.left input.old) (O.written out.old) (M.written mail.old) (J.written log.old))
-        (world (S.left input.new) (O.written out.new) (M.written mail.new) (J.written log.new)) session.old session.new) }
+        (world (S.left input.new) (O.written out.new) (M.written mail.new) (J.written log.new)) session.old session.new budget) }
     ensures failed { result ≡ Err TalkFault.Input → PassedShort (world (S.left input.old) (O.written out.old) (M.written mail.old) (J.written log.old))
-        (world (S.left input.new) (O.written out.new) (M.written mail.new) (J.written log.new)) session.old session.new }
+        (world (S.left input.new) (O.written out.new) (M.written mail.new) (J.written log.new)) session.old session.new budget }
     ensures front { OnErr result (PassedFront (world (S.left input.old) (O.written out.old) (M.written mail.old) (J.written log.old))
         (world (S.left input.new) (O.written out.new) (M.written mail.new) (J.written log.new)) session.old budget) }
     ensures mail { M.written mail.new ≡ M.written mail.old }
@@ -101,8 +99,8 @@ fn serve<S: Source, O: Sink, M: Sink, J: Sink>(
 {
     let mut buf = [0u8; 4096];
     let mut taken = 0;
-    'turns: while taken < BUDGET {
-        let room = (BUDGET - taken).min(PIECE) as usize;
+    'turns: while taken < budget {
+        let room = (budget - taken).min(PIECE) as usize;
         match take_turn(alloc, session, &mut buf[..room], input, out, mail, log)? {
             Turn::End => return Ok(Ended::AtEnd),
             Turn::More(count) => taken += count,
@@ -112,29 +110,30 @@ fn serve<S: Source, O: Sink, M: Sink, J: Sink>(
     Ok(Ended::AtBudget)
 }
 
-/// A session with the client of this address: the greeting, and then the input to its end.
+/// A session with the client of this address: the greeting, and then the input to its end, at most `budget` bytes.
 pub(crate) fn talk<S: Source, O: Sink, M: Sink, J: Sink>(
     alloc: Global,
     opening: Opening,
     client: u32,
+    budget: u64,
     input: &mut S,
     out: &mut O,
     mail: &mut M,
     log: &mut J,
 ) -> Result<Ended, TalkFault>
-    ensures talks { IfOk result (TalksUntil (setup_of opening client) (world (S.left input.old) (O.written out.old) (M.written mail.old) (J.written log.old))
+    ensures talks { IfOk result (TalksUntil (setup_of opening client) budget (world (S.left input.old) (O.written out.old) (M.written mail.old) (J.written log.old))
         (world (S.left input.new) (O.written out.new) (M.written mail.new) (J.written log.new))) }
-    ensures failed { result ≡ Err TalkFault.Input → TalksShort (setup_of opening client) (world (S.left input.old) (O.written out.old) (M.written mail.old) (J.written log.old))
+    ensures failed { result ≡ Err TalkFault.Input → TalksShort (setup_of opening client) budget (world (S.left input.old) (O.written out.old) (M.written mail.old) (J.written log.old))
         (world (S.left input.new) (O.written out.new) (M.written mail.new) (J.written log.new)) }
-    ensures front { OnErr result (TalksFront (setup_of opening client) (world (S.left input.old) (O.written out.old) (M.written mail.old) (J.written log.old))
+    ensures front { OnErr result (TalksFront (setup_of opening client) budget (world (S.left input.old) (O.written out.old) (M.written mail.old) (J.written log.old))
         (world (S.left input.new) (O.written out.new) (M.written mail.new) (J.written log.new))) }
     ensures mail { M.written mail.new ≡ M.written mail.old }
     ensures cause { HasTalkCause (counts (S.faults input.old) (O.faults out.old) (M.faults mail.old) (J.faults log.old))
         (counts (S.faults input.new) (O.faults out.new) (M.faults mail.new) (J.faults log.new)) result }
 {
-    let mut session = Session::new(alloc, opening.host, opening.policy, client);
+    let mut session = Session::new(alloc, opening.host, opening.banner, opening.policy, client);
     match session.greet(alloc, out) {
-        Ok(()) => serve(alloc, &mut session, input, out, mail, log),
+        Ok(()) => serve(alloc, &mut session, budget, input, out, mail, log),
         Err(SessionFault::Out) => Err(TalkFault::Out),
         Err(SessionFault::Mail) => Err(TalkFault::Mail),
         Err(SessionFault::Log) => Err(TalkFault::Log),

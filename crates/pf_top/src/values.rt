@@ -1,11 +1,11 @@
-//! The values of the four parameters (postconf(5)).
+//! What the values of a session's parameters say (postconf(5)).
 ghost use Rattle.std.specs.Prelude.{◌≡◌, IfOk};
 ghost use Rattle.std.specs.List.{list_any};
-ghost use Rattle.pf_top.specs.Address as address;
+ghost use Rattle.pf_top.specs.Nets as nets;
 ghost use Rattle.pf_top.specs.Values as values;
+ghost use Rattle.pf_words.specs.Sets.{all_of};
 
-use crate::address::net_of;
-use crate::items::items_in;
+use crate::nets::net_of;
 use pf_base::{Bytes, List, NoMemory, is_host_name, same_in_any_case};
 use pf_eval::{PlainItem, PlainNet};
 use std::alloc::Global;
@@ -24,7 +24,7 @@ pub(crate) fn host_of(alloc: Global, value: &[u8]) -> Result<Option<Bytes>, NoMe
 }
 
 fn all_hosts(alloc: Global, items: &[Bytes]) -> Result<Option<List<Bytes>>, NoMemory>
-    ensures { IfOk result (λ hosts. hosts ≡ values.all_of values.host_of items.now) }
+    ensures { IfOk result (λ hosts. hosts ≡ all_of values.host_of items.now) }
 {
     let mut hosts = List::new(alloc);
     for item in items {
@@ -37,7 +37,7 @@ fn all_hosts(alloc: Global, items: &[Bytes]) -> Result<Option<List<Bytes>>, NoMe
 }
 
 fn all_nets(alloc: Global, items: &[Bytes]) -> Result<Option<List<PlainNet>>, NoMemory>
-    ensures { IfOk result (λ nets. nets ≡ values.all_of address.net_of items.now) }
+    ensures { IfOk result (λ networks. networks ≡ all_of nets.net_of items.now) }
 {
     let mut nets = List::new(alloc);
     for item in items {
@@ -63,7 +63,7 @@ pub(crate) fn restriction_of(word: &[u8]) -> Option<PlainItem>
 }
 
 fn all_restrictions(alloc: Global, items: &[Bytes]) -> Result<Option<List<PlainItem>>, NoMemory>
-    ensures { IfOk result (λ relay. relay ≡ values.all_of values.restriction_of items.now) }
+    ensures { IfOk result (λ relay. relay ≡ all_of values.restriction_of items.now) }
 {
     let mut relay = List::new(alloc);
     for item in items {
@@ -75,13 +75,12 @@ fn all_restrictions(alloc: Global, items: &[Bytes]) -> Result<Option<List<PlainI
     Ok(Some(relay))
 }
 
-/// mydestination: one or more host names; None where the value is none.
+/// mydestination: one or more host names; None where the items are none.
 #[tactic(auto, unfolding(crate::specs::Values::hosts_of))]
-pub(crate) fn hosts_of(alloc: Global, value: &[u8]) -> Result<Option<List<Bytes>>, NoMemory>
-    ensures { IfOk result (λ hosts. hosts ≡ values.hosts_of value.now) }
+pub(crate) fn hosts_of(alloc: Global, items: &[Bytes]) -> Result<Option<List<Bytes>>, NoMemory>
+    ensures { IfOk result (λ hosts. hosts ≡ values.hosts_of items.now) }
 {
-    let items = items_in(alloc, value)?;
-    match all_hosts(alloc, items.as_slice())? {
+    match all_hosts(alloc, items)? {
         None => Ok(None),
         Some(hosts) => {
             if hosts.len() > 0 {
@@ -93,13 +92,12 @@ pub(crate) fn hosts_of(alloc: Global, value: &[u8]) -> Result<Option<List<Bytes>
     }
 }
 
-/// mynetworks: one or more networks; None where the value is none.
+/// mynetworks: one or more networks; None where the items are none.
 #[tactic(auto, unfolding(crate::specs::Values::nets_of))]
-pub(crate) fn nets_of(alloc: Global, value: &[u8]) -> Result<Option<List<PlainNet>>, NoMemory>
-    ensures { IfOk result (λ nets. nets ≡ values.nets_of value.now) }
+pub(crate) fn nets_of(alloc: Global, items: &[Bytes]) -> Result<Option<List<PlainNet>>, NoMemory>
+    ensures { IfOk result (λ nets. nets ≡ values.nets_of items.now) }
 {
-    let items = items_in(alloc, value)?;
-    match all_nets(alloc, items.as_slice())? {
+    match all_nets(alloc, items)? {
         None => Ok(None),
         Some(nets) => {
             if nets.len() > 0 {
@@ -126,13 +124,12 @@ fn has_closing(items: &[PlainItem]) -> bool
     items.iter().any(|item| is_closing(*item))
 }
 
-/// smtpd_relay_restrictions: restrictions, of which one closes the list; None where the value is none.
+/// smtpd_relay_restrictions: restrictions, of which one closes the list; None where the items are none.
 #[tactic(auto, unfolding(crate::specs::Values::relay_of))]
-pub(crate) fn relay_of(alloc: Global, value: &[u8]) -> Result<Option<List<PlainItem>>, NoMemory>
-    ensures { IfOk result (λ relay. relay ≡ values.relay_of value.now) }
+pub(crate) fn relay_of(alloc: Global, items: &[Bytes]) -> Result<Option<List<PlainItem>>, NoMemory>
+    ensures { IfOk result (λ relay. relay ≡ values.relay_of items.now) }
 {
-    let items = items_in(alloc, value)?;
-    match all_restrictions(alloc, items.as_slice())? {
+    match all_restrictions(alloc, items)? {
         None => Ok(None),
         Some(relay) => {
             if has_closing(relay.as_slice()) {

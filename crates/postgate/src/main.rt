@@ -34,19 +34,30 @@ fn answer_fault(rt: &HostRuntime, kind: ErrorKind) -> u8 {
     }
 }
 
-// Runs the command of these words on the real objects.
+// Runs the command of these words on the real objects, with this record of messages and this log.
+fn answer_with<J: Sink>(
+    rt: &HostRuntime,
+    alloc: Global,
+    words: &[String],
+    mail: &mut FileSink<'_>,
+    log: &mut J,
+) -> u8 {
+    let mut input = Reading::new(rt.stdin());
+    let mut out = Writing::new(rt.stdout());
+    let mut files = RealFiles::new(rt);
+    run(alloc, words, &mut input, &mut out, mail, log, &mut files)
+}
+
+// Runs the command of these words; the log is the file that they name, or standard error.
 fn answer(rt: &HostRuntime, alloc: Global, words: &[String]) -> u8 {
     let Ok(names) = sink_names(alloc, words) else {
         return NO_MEMORY;
     };
     let mut mail = FileSink::new(rt, names.mail.unwrap_or(""));
-    let mut input = Reading::new(rt.stdin());
-    let mut out = Writing::new(rt.stdout());
-    let mut log = Writing::new(rt.stderr());
-    let mut files = RealFiles::new(rt);
-    run(
-        alloc, words, &mut input, &mut out, &mut mail, &mut log, &mut files,
-    )
+    match names.log {
+        None => answer_with(rt, alloc, words, &mut mail, &mut Writing::new(rt.stderr())),
+        Some(name) => answer_with(rt, alloc, words, &mut mail, &mut FileSink::new(rt, name)),
+    }
 }
 
 fn main(rt: HostRuntime) -> ExitCode {

@@ -1,5 +1,5 @@
 use Rattle.std.proofs.Common.{◌≡◌, ◌≤◌, ◌-◌, false}
-use Rattle.pf_top.specs.Talk.{budget, world}
+use Rattle.pf_top.specs.Talk.{world}
 use Rattle.pf_top.specs.Turns.{PassedCount}
 use Rattle.pf_top.proofs.talk.serve.Given as goal
 
@@ -8,7 +8,7 @@ invariant-turns g l = record {
   passed : PassedCount (world (g.S.Source.left l.initial.input) (g.O.Sink.written l.initial.out) (g.M.Sink.written l.initial.mail) (g.J.Sink.written l.initial.log))
       (world (g.S.Source.left l.input) (g.O.Sink.written l.out) (g.M.Sink.written l.mail) (g.J.Sink.written l.log)) l.initial.session l.session l.taken;
   goes_on : l.session.state.over ≡ false;
-  within : l.taken ≤ budget;
+  within : l.taken ≤ l.budget;
   input : g.S.Source.faults l.input ≡ g.S.Source.faults l.initial.input;
   out : g.O.Sink.faults l.out ≡ g.O.Sink.faults l.initial.out;
   mail : g.M.Sink.faults l.mail ≡ g.M.Sink.faults l.initial.mail;
@@ -17,4 +17,4 @@ invariant-turns g l = record {
 }
 
 abbrev pub decreases-turns : goal.decreases-turns
-decreases-turns g l = budget - l.taken
+decreases-turns g l = l.budget - l.taken

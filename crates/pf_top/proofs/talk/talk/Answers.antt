@@ -10,24 +10,24 @@ returns-in-Ok-clause-talks g c =
     let begins = c.in-Ok.ensures.same ∙ c.new-session.ensures in
     let greeted = rw c.new-session.ensures at c.in-Ok.ensures.out in
     let mid = ap (λ (out : Option (List ℕ)). world (g.S.Source.left c.args.input.now) out (g.M.Sink.written c.args.mail.now) (g.J.Sink.written c.args.log.now)) greeted in
-    IfOk-weaker c.serve.result _ _ (λ how serves. serves_talks (setup_of c.args.opening c.args.client) how begins mid serves) c.serve.ensures.serves
+    IfOk-weaker c.serve.result _ _ (λ how serves. serves_talks (setup_of c.args.opening c.args.client) c.args.budget how begins mid serves) c.serve.ensures.serves
 
 pub returns-in-Ok-clause-failed : goal.returns-in-Ok-clause-failed
 returns-in-Ok-clause-failed g c = λ failed.
     let begins = c.in-Ok.ensures.same ∙ c.new-session.ensures in
     let greeted = rw c.new-session.ensures at c.in-Ok.ensures.out in
     let mid = ap (λ (out : Option (List ℕ)). world (g.S.Source.left c.args.input.now) out (g.M.Sink.written c.args.mail.now) (g.J.Sink.written c.args.log.now)) greeted in
-    short_talks (setup_of c.args.opening c.args.client) begins mid (c.serve.ensures.failed failed)
+    short_talks (setup_of c.args.opening c.args.client) c.args.budget begins mid (c.serve.ensures.failed failed)
 
 pub returns-in-Ok-clause-front : goal.returns-in-Ok-clause-front
 returns-in-Ok-clause-front g c =
     let begins = c.in-Ok.ensures.same ∙ c.new-session.ensures in
     let greeted = rw c.new-session.ensures at c.in-Ok.ensures.out in
     let mid = ap (λ (out : Option (List ℕ)). world (g.S.Source.left c.args.input.now) out (g.M.Sink.written c.args.mail.now) (g.J.Sink.written c.args.log.now)) greeted in
-    on_err_weaker c.serve.result (front_talks (setup_of c.args.opening c.args.client) begins mid) c.serve.ensures.front
+    on_err_weaker c.serve.result (front_talks (setup_of c.args.opening c.args.client) c.args.budget begins mid) c.serve.ensures.front
 
 pub returns-in-Err-Out-clause-front : goal.returns-in-Err-Out-clause-front
-returns-in-Err-Out-clause-front g c = greeting_front (setup_of c.args.opening c.args.client) _ _ (rw c.new-session.ensures at c.in-Err-Out.ensures.front) refl
+returns-in-Err-Out-clause-front g c = greeting_front (setup_of c.args.opening c.args.client) c.args.budget _ _ (rw c.new-session.ensures at c.in-Err-Out.ensures.front) refl
 
 pub returns-clause-front : goal.returns-clause-front
-returns-clause-front g c = greeting_front (setup_of c.args.opening c.args.client) _ _ (rw c.new-session.ensures at c.in-Err-NoMemory.ensures.front) refl
+returns-clause-front g c = greeting_front (setup_of c.args.opening c.args.client) c.args.budget _ _ (rw c.new-session.ensures at c.in-Err-NoMemory.ensures.front) refl

@@ -1,51 +1,40 @@
-use Rattle.std.proofs.Common.{List, Option, ℕ, Err, ap, sym, ◌∙◌, inl, inr, refl}
-use Rattle.pf_top.specs.Talk.{world}
-use Rattle.pf_base.specs.Refusal.{refusal_line}
-use Rattle.pf_top.specs.OptionsMeant.{options_meant}
-use Rattle.pf_top.proofs.RunLemmas.{budget_is, done_is, input_is, is_refused, opens, says_nothing}
+use Rattle.std.proofs.Common.{refl}
+use Rattle.pf_top.proofs.CommandLemmas.{postconf_as, postconf_nothing, same_postconf, same_smtpd, smtpd_as, smtpd_nothing}
 use Rattle.pf_top.proofs.top.run.Goals as goal
 
-pub returns-in-Ok-clause-done : goal.returns-in-Ok-clause-done
-returns-in-Ok-clause-done g c = λ done. record {
-  opens = opens _ _ (options_meant c.in-Some.options) c.in-Ok-Accepted.opening _ c.in-Some.ensures c.in-Ok-Accepted.field-0-is c.in-Ok-Accepted.ensures.told;
-  how = c.in-Ok.ended;
-  ended = done_is c.in-Ok.ended (sym c.ended_status.ensures ∙ done);
-  talks = c.in-Ok.ensures.talks;
-}
+pub returns-in-Ok-Some-Smtpd-clause-smtpd : goal.returns-in-Ok-Some-Smtpd-clause-smtpd
+returns-in-Ok-Some-Smtpd-clause-smtpd g c = λ said is.
+    let read = c.in-Ok-Some-Smtpd in
+    let left = c.run_smtpd.ensures in
+    smtpd_as (same_smtpd read.field-0 _ read.field-0-0 read.words said read.field-0-is read.field-0-0-is read.ensures.is is) (record {
+      done = left.done;
+      budget = left.budget;
+      broken = left.broken;
+      refused = left.refused;
+      unread = left.unread;
+      cut = left.cut;
+      complete = left.complete;
+      mail = left.mail;
+      files = left.content;
+      known = left.known;
+    })
 
-pub returns-in-Ok-clause-budget : goal.returns-in-Ok-clause-budget
-returns-in-Ok-clause-budget g c = λ done. record {
-  opens = opens _ _ (options_meant c.in-Some.options) c.in-Ok-Accepted.opening _ c.in-Some.ensures c.in-Ok-Accepted.field-0-is c.in-Ok-Accepted.ensures.told;
-  how = c.in-Ok.ended;
-  ended = budget_is c.in-Ok.ended (sym c.ended_status.ensures ∙ done);
-  talks = c.in-Ok.ensures.talks;
-}
+pub returns-in-Ok-Some-Postconf-clause-postconf : goal.returns-in-Ok-Some-Postconf-clause-postconf
+returns-in-Ok-Some-Postconf-clause-postconf g c = λ said is.
+    let read = c.in-Ok-Some-Postconf in
+    let left = c.postconf.ensures in
+    postconf_as (same_postconf read.field-0 _ read.field-0-0 read.words said read.field-0-is read.field-0-0-is read.ensures.is is) (record {
+      through = left.through;
+      cut = left.cut;
+      complete = left.complete;
+      content = left.content;
+      output = λ edit. (left.output edit).0;
+      rest = (refl, refl);
+      known = left.known;
+    })
 
-pub returns-in-Err-clause-broken : goal.returns-in-Err-clause-broken
-returns-in-Err-clause-broken g c = λ broken. record {
-  opens = opens _ _ (options_meant c.in-Some.options) c.in-Ok-Accepted.opening _ c.in-Some.ensures c.in-Ok-Accepted.field-0-is c.in-Ok-Accepted.ensures.told;
-  talks = c.in-Err.ensures.failed (ap Err (input_is c.in-Err.fault (sym c.fault_status.ensures ∙ broken)));
-}
+pub returns-in-Err-clause-smtpd : goal.returns-in-Err-clause-smtpd
+returns-in-Err-clause-smtpd g c = λ said is. smtpd_nothing said _
 
-pub returns-in-Err-clause-cut : goal.returns-in-Err-clause-cut
-returns-in-Err-clause-cut g c = λ cut. inl (record {
-  opens = opens _ _ (options_meant c.in-Some.options) c.in-Ok-Accepted.opening _ c.in-Some.ensures c.in-Ok-Accepted.field-0-is c.in-Ok-Accepted.ensures.told;
-  talks = c.in-Err.ensures.front;
-})
-
-pub returns-in-Err-NoMemory-clause-cut : goal.returns-in-Err-NoMemory-clause-cut
-returns-in-Err-NoMemory-clause-cut g c = λ cut. says_nothing _ _ _ (options_meant c.in-Some.options) c.in-Some.ensures
-
-pub returns-in-Ok-Refused-clause-refused : goal.returns-in-Ok-Refused-clause-refused
-returns-in-Ok-Refused-clause-refused g c = λ status. record {
-  refused = is_refused _ _ (options_meant c.in-Some.options) c.in-Ok-Refused.refusal _ c.in-Some.ensures c.in-Ok-Refused.field-0-is c.in-Ok-Refused.ensures.told;
-  said = ap (λ (log : Option (List ℕ)). world (g.S.Source.left c.args.input.now) (g.O.Sink.written c.args.out.now) (g.M.Sink.written c.args.mail.now) log) (c.say_refused.ensures.said status);
-}
-
-pub returns-in-Ok-Refused-clause-cut : goal.returns-in-Ok-Refused-clause-cut
-returns-in-Ok-Refused-clause-cut g c = λ cut. inr (record {
-  line = refusal_line c.in-Ok-Refused.refusal;
-  is = inr (inl (is_refused _ _ (options_meant c.in-Some.options) c.in-Ok-Refused.refusal _ c.in-Some.ensures c.in-Ok-Refused.field-0-is c.in-Ok-Refused.ensures.told, refl));
-  front = c.say_refused.ensures.front;
-  rest = refl;
-})
+pub returns-in-Err-clause-postconf : goal.returns-in-Err-clause-postconf
+returns-in-Err-clause-postconf g c = λ said is. postconf_nothing said _
