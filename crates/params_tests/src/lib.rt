@@ -4,6 +4,8 @@
 #[cfg(test)]
 mod expansion_tests;
 #[cfg(test)]
+mod known_tests;
+#[cfg(test)]
 mod refusals_tests;
 #[cfg(test)]
 mod settings_tests;

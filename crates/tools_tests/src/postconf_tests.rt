@@ -301,6 +301,7 @@ const EDITS: &[(&str, &str, &str)] = &[
         "3||postgate: main.cf:2: C3 bad name\n|=",
     ),
     ("postconf -e a=", "a = 1", "0|||a = \n"),
+    ("postconf -e a=1", "", "0|||\na = 1\n"),
     (
         "postconf -e c=3 a=2",
         "a = 1\nb = 2",
