@@ -275,11 +275,11 @@ const EDITS: &[(&str, &str, &str)] = &[
         CYCLE,
         "0|||a = 1\nb = $a\nrelay_domains = $a",
     ),
-    ("postconf -e a=1", "", "0|||a = 1\n"),
-    ("postconf -e -- -a=1", "", "0|||-a = 1\n"),
+    ("postconf -e a=1", "", "0|||\na = 1\n"),
+    ("postconf -e -- -a=1", "", "0|||\n-a = 1\n"),
     ("postconf a=1 -e", "a = 1\n", "0|||="),
     ("postconf -e a=1", "a  =  1\n", "0|||a = 1\n"),
-    ("postconf -e a=$", "", "0|||a = $\n"),
+    ("postconf -e a=$", "", "0|||\na = $\n"),
     (
         "postconf -e x=1 relay_domains=example.org",
         CONF,
@@ -301,7 +301,6 @@ const EDITS: &[(&str, &str, &str)] = &[
         "3||postgate: main.cf:2: C3 bad name\n|=",
     ),
     ("postconf -e a=", "a = 1", "0|||a = \n"),
-    ("postconf -e a=1", "", "0|||\na = 1\n"),
     (
         "postconf -e c=3 a=2",
         "a = 1\nb = 2",
