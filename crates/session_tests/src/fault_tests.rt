@@ -1,4 +1,4 @@
-use crate::tests::{CONF, Failing, Left, NONE, SESSION, run_with};
+use crate::support::{CONF, Failing, Left, NONE, SESSION, run_with};
 use pf_base::NoMemory;
 use std::alloc::Global;
 use std::test::Fail;

@@ -2,8 +2,18 @@
 #![tactic(auto)]
 
 #[cfg(test)]
+mod budget_tests;
+#[cfg(test)]
 mod conf_tests;
 #[cfg(test)]
 mod fault_tests;
 #[cfg(test)]
+mod greeting_tests;
+#[cfg(test)]
+mod postconf_tests;
+#[cfg(test)]
+mod support;
+#[cfg(test)]
 mod tests;
+#[cfg(test)]
+mod words_tests;
