@@ -1,7 +1,7 @@
-use crate::support::{CONF, Failing, Left, NONE, SESSION, run_with};
 use pf_base::NoMemory;
 use std::alloc::Global;
 use std::test::Fail;
+use test_runs::{CONF, Failing, Left, NONE, SESSION, run_with};
 
 const WORDS: &[&str] = &["smtpd", "-p", "192.0.2.9", "-m", "mail"];
 

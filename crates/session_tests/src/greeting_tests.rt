@@ -1,6 +1,6 @@
-use crate::conf_tests::conf_text;
-use crate::support::run_smtpd;
+use crate::conf_tests::text_between;
 use std::test::Fail;
+use test_runs::run_smtpd;
 
 // What stands behind the settings of the four, the one of them that is left out, and the greeting and the reply to HELO without their codes.
 const TABLE: &[(&str, &str, &str, &str)] = &[
@@ -86,7 +86,7 @@ const TABLE: &[(&str, &str, &str, &str)] = &[
 fn each_banner_greets(rt: HostRuntime) -> Result<(), Fail> {
     let alloc = rt.alloc();
     for (behind, without, banner, host) in TABLE {
-        let text = conf_text(alloc, "", without, behind)?;
+        let text = text_between(alloc, b"", without.as_bytes(), behind.as_bytes())?;
         let left = run_smtpd(alloc, "10.1.2.3", text.as_slice(), b"HELO c.test\r\n", 0)?;
         let replies = format!(in alloc; "220 {banner}\r\n250 {host}\r\n")?;
         assert_eq!(rt; left.status, 0, "of {behind}");

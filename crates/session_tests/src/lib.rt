@@ -10,10 +10,4 @@ mod fault_tests;
 #[cfg(test)]
 mod greeting_tests;
 #[cfg(test)]
-mod postconf_tests;
-#[cfg(test)]
-mod support;
-#[cfg(test)]
 mod tests;
-#[cfg(test)]
-mod words_tests;

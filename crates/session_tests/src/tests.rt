@@ -1,7 +1,7 @@
-use crate::support::{CONF, SESSION, run_smtpd};
 use pf_base::{Bytes, NoMemory};
 use std::alloc::Global;
 use std::test::Fail;
+use test_runs::{CONF, SESSION, run_smtpd};
 
 #[test]
 fn a_recipient_is_judged_however_the_input_is_cut(rt: HostRuntime) -> Result<(), Fail> {

@@ -1,7 +1,7 @@
-use crate::support::{Failing, Left, NONE, SESSION, run_over, two_files, words_in};
 use pf_base::{Bytes, MemFiles, NoMemory, read_all};
 use std::alloc::Global;
 use std::test::Fail;
+use test_runs::{Failing, Left, NONE, SESSION, run_over, two_files, words_in};
 
 const CONF: &str =
     "# top\nmyhostname = mx.example.com\nrelay_domains = example.net\n  , example.org\n# end\n";

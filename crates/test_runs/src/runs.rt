@@ -1,27 +1,31 @@
+//! Runs of the program over the forms in memory.
 use pf_base::{Bytes, List, MemFiles, MemSink, MemSource, NoMemory, Pair, Source};
 use pf_top::run;
 use std::alloc::Global;
 
-pub(crate) const CONF: &[u8] =
+/// A main.cf of the four settings of the stored example.
+pub const CONF: &[u8] =
     b"myhostname = mx.example.com\nmydestination = example.com\nmynetworks = 10.0.0.0/8\n\
 smtpd_relay_restrictions = permit_mynetworks, reject_unauth_destination\n";
 
-pub(crate) const SESSION: &[u8] =
+/// The session of the stored example.
+pub const SESSION: &[u8] =
     b"HELO c.test\r\nMAIL FROM:<a@b.test>\r\nRCPT TO:<joe@other.test>\r\nQUIT\r\n";
 
-pub(crate) const USAGE: &str = "usage: postgate smtpd|relaycheck|postconf|postmap|workload\n";
+/// The line that says how the program is used.
+pub const USAGE: &str = "usage: postgate smtpd|relaycheck|postconf|postmap|workload\n";
 
-// What a run left, and how many bytes of its input a further read gives.
+/// What a run left, and how many bytes of its input a further read gives.
 #[derive(Drop)]
-pub(crate) struct Left {
-    pub(crate) status: u8,
-    pub(crate) out: MemSink,
-    pub(crate) mail: MemSink,
-    pub(crate) log: MemSink,
-    pub(crate) unread: usize,
+pub struct Left {
+    pub status: u8,
+    pub out: MemSink,
+    pub mail: MemSink,
+    pub log: MemSink,
+    pub unread: usize,
 }
 
-pub(crate) fn words(alloc: Global, list: &[&str]) -> Result<Vec<String>, NoMemory> {
+fn words(alloc: Global, list: &[&str]) -> Result<Vec<String>, NoMemory> {
     let mut words = Vec::new(alloc);
     for word in list {
         words.push(String::from_str(alloc, word)?)?;
@@ -42,8 +46,8 @@ fn word(alloc: Global, written: &str) -> Result<String, NoMemory> {
     Ok(word)
 }
 
-// The words of a line of a table, which blanks part; an empty line has none.
-pub(crate) fn words_in(alloc: Global, line: &str) -> Result<Vec<String>, NoMemory> {
+/// The words of a line of a table, which blanks part; an empty line has none.
+pub fn words_in(alloc: Global, line: &str) -> Result<Vec<String>, NoMemory> {
     let mut words = Vec::new(alloc);
     if !line.is_empty() {
         for written in line.split(' ') {
@@ -53,16 +57,17 @@ pub(crate) fn words_in(alloc: Global, line: &str) -> Result<Vec<String>, NoMemor
     Ok(words)
 }
 
-// Which calls of each object fail, from 1; 0 none.
+/// Which calls of each object fail, from 1; 0 none.
 #[derive(Clone, Copy)]
-pub(crate) struct Failing {
-    pub(crate) input: u64,
-    pub(crate) out: u64,
-    pub(crate) log: u64,
-    pub(crate) files: u64,
+pub struct Failing {
+    pub input: u64,
+    pub out: u64,
+    pub log: u64,
+    pub files: u64,
 }
 
-pub(crate) const NONE: Failing = Failing {
+/// No call fails.
+pub const NONE: Failing = Failing {
     input: 0,
     out: 0,
     log: 0,
@@ -82,8 +87,8 @@ fn pair(alloc: Global, name: &[u8], text: &[u8]) -> Result<Pair, NoMemory> {
     })
 }
 
-// Two files with their names and texts, of whose calls one fails.
-pub(crate) fn two_files(
+/// Two files with their names and texts, of whose calls one fails.
+pub fn two_files(
     alloc: Global,
     first: (&[u8], &[u8]),
     second: (&[u8], &[u8]),
@@ -127,8 +132,8 @@ fn unread(source: &mut MemSource) -> usize {
     }
 }
 
-// Runs these words with these files and this input, in reads of at most so many bytes; 0 sets no limit.
-pub(crate) fn run_over(
+/// Runs these words with these files and this input, in reads of at most so many bytes; 0 sets no limit.
+pub fn run_over(
     alloc: Global,
     words: &[String],
     files: &mut MemFiles,
@@ -159,8 +164,8 @@ pub(crate) fn run_over(
     })
 }
 
-// The same with a main.cf of this text.
-pub(crate) fn run_with(
+/// The same with a main.cf of this text.
+pub fn run_with(
     alloc: Global,
     list: &[&str],
     conf: &[u8],
@@ -173,8 +178,8 @@ pub(crate) fn run_with(
     run_over(alloc, &words, &mut files, input, cut, faults)
 }
 
-// Runs `smtpd` for a client, and no call fails.
-pub(crate) fn run_smtpd(
+/// Runs `smtpd` for a client, and no call fails.
+pub fn run_smtpd(
     alloc: Global,
     client: &str,
     conf: &[u8],

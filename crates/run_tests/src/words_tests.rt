@@ -1,8 +1,8 @@
-use crate::support::{CONF, Left, NONE, SESSION, USAGE, run_over, two_files, words_in};
 use pf_base::NoMemory;
 use pf_top::sink_names;
 use std::alloc::Global;
 use std::test::Fail;
+use test_runs::{CONF, Left, NONE, SESSION, USAGE, run_over, two_files, words_in};
 
 // The main.cf of the folder d.
 const INNER: &[u8] = b"mail_name = Inner\nmynetworks = 192.0.2.0/24\nmydestination = example.com\n\
