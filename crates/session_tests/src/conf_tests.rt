@@ -541,9 +541,14 @@ fn refusal_line(
     name: Option<&[u8]>,
 ) -> Result<Bytes, NoMemory> {
     let mut log = Bytes::from_slice(alloc, b"postgate: main.cf:")?;
-    log.extend_all(&[line, b": ", code, b" ", cause_of(code)])?;
+    log.extend(line)?;
+    log.extend(b": ")?;
+    log.extend(code)?;
+    log.extend(b" ")?;
+    log.extend(cause_of(code))?;
     if let Some(name) = name {
-        log.extend_all(&[b": ", name])?;
+        log.extend(b": ")?;
+        log.extend(name)?;
     }
     log.push(b'\n')?;
     Ok(log)
