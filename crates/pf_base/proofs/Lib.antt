@@ -5,5 +5,6 @@ pub mod LedLaws
 pub mod LineEnds
 pub mod LogicalLemmas
 pub mod Parts
+pub mod PrintingLaws
 pub mod Rows
 pub mod ToldLemmas

@@ -1,7 +1,7 @@
 -- Worked examples of the definitions, each by computation.
-use Rattle.std.proofs.Common.{◌≡◌, ℕ, Bool, true, false, List, [], ◌∷◌, None, Some, Ok, Err, refl, codes}
+use Rattle.std.proofs.Common.{◌≡◌, ℕ, Bool, true, false, List, [], ◌∷◌, None, Some, Ok, Err, refl, codes, map}
 use Rattle.pf_base.specs.Braces.{lone_brace, partner}
-use Rattle.pf_base.specs.Causes.{counted}
+use Rattle.pf_base.specs.Causes.{counted, counted_by}
 use Rattle.pf_base.specs.FileList.{file_of, whole_file, with_file}
 use Rattle.pf_base.specs.Gathering.{followed_by}
 use Rattle.pf_base.specs.Heard.{marked, next_mark, next_outcome}
@@ -10,10 +10,13 @@ use Rattle.pf_base.specs.Logical.{grouped, is_ignored, logical_lines_of, physica
 use Rattle.pf_base.specs.Memory.{fails_next, greatest_read}
 use Rattle.pf_base.specs.Names.{folded, is_host_name, is_label, is_label_byte, same_in_any_case}
 use Rattle.pf_base.specs.Questions.{look, try, ◌>>=◌}
-use Rattle.pf_base.specs.Refusal.{cause_text, name_part, printable, refusal_line}
+use Rattle.pf_base.specs.Objects.{appended, sink_status, sinks}
+use Rattle.pf_base.specs.Printing.{printable, printed_line}
+use Rattle.pf_base.specs.Refusal.{cause_text, name_part, refusal_line}
 use Rattle.std.specs.Fmt.{digits}
 use Rattle.pf_base.specs.Space.{is_space, trimmed, without_leading_space, without_trailing_space}
 use Rattle.pf_base.specs.TableTexts.{place_of, place_or_next, with_text}
+use Rattle.pf_base.specs.Told.{Output}
 use Rattle.pf_base.specs.Words.{words_of}
 use Rattle.pf_base.specs.declared.links.LinkStep.TheVariants.{Connect, Send}
 use Rattle.pf_base.specs.declared.links.Outcome.{Outcome}
@@ -22,11 +25,18 @@ use Rattle.pf_base.specs.declared.logical.TextFault.TheVariants.{Continuation}
 use Rattle.pf_base.specs.declared.pair.Pair.{Pair}
 use Rattle.pf_base.specs.declared.refused.Cause.TheVariants.{C2, C14}
 use Rattle.pf_base.specs.declared.table_texts.TableText.{TableText}
+use Rattle.pf_base.specs.declared.texts.SinkFault.TheVariants as fault
 use Rattle.pf_base.specs.declared.words.WordsFault.TheVariants.{Unbalanced}
 
 -- a count
 count_rises : counted 0 ≡ 1
 count_rises = refl
+
+count_by_many : counted_by 4 3 ≡ 7
+count_by_many = refl
+
+count_by_too_many : counted_by 4 18446744073709551613 ≡ 18446744073709551615
+count_by_too_many = refl
 
 count_stays : counted 18446744073709551615 ≡ 18446744073709551615
 count_stays = refl
@@ -189,6 +199,17 @@ whole_file_absent = refl
 whole_file_there : whole_file (Some (codes "ab")) ≡ Ok (Some (codes "ab"))
 whole_file_there = refl
 
+-- what is written
+abbrev empty : Output
+empty = record { written = Some []; faults = 0 }
+
+each_sink_takes_its_text : appended (sinks empty (record empty { written = None }) empty) (record { out = codes "a"; mail = codes "b"; log = codes "c" })
+    ≡ sinks (record empty { written = Some (codes "a") }) (record empty { written = None }) (record empty { written = Some (codes "c") })
+each_sink_takes_its_text = refl
+
+statuses_of_faults : map sink_status (fault.Out ∷ fault.Mail ∷ fault.Log ∷ fault.NoMemory ∷ []) ≡ 5 ∷ 6 ∷ 7 ∷ 9 ∷ []
+statuses_of_faults = refl
+
 -- calls in memory
 second_call_fails : fails_next (record { failing = 2 ∷ []; made = 1; faults = 0 }) ≡ true
 second_call_fails = refl
@@ -212,7 +233,11 @@ control_byte = refl
 high_byte : printable 228 ≡ 228
 high_byte = refl
 
-named_part : name_part (codes "a\nb") ≡ codes ": a?b"
+line_of_the_log : printed_line (codes "a\tb\u{7f}\n") ≡ codes "a?b??\n"
+unfolding printed_line
+line_of_the_log = refl
+
+named_part : name_part (codes "a\nb") ≡ codes ": a\nb"
 named_part = refl
 
 no_name : name_part [] ≡ []
@@ -224,11 +249,11 @@ text_of_a_cause = refl
 
 line_with_a_name : refusal_line (record { file = codes "main.cf"; line = 12; cause = C14; name = codes "mydomain" })
     ≡ codes "postgate: main.cf:12: C14 setting outside the profile: mydomain\n"
-unfolding refusal_line cause_text digits
+unfolding refusal_line printed_line cause_text digits
 line_with_a_name = refl
 
 line_without_a_name : refusal_line (record { file = codes "main.cf"; line = 5; cause = C2; name = [] }) ≡ codes "postgate: main.cf:5: C2 no equals sign\n"
-unfolding refusal_line cause_text digits
+unfolding refusal_line printed_line cause_text digits
 line_without_a_name = refl
 
 -- what is heard

@@ -1,7 +1,9 @@
 -- What an object told, over several calls.
-use Rattle.std.proofs.Common.{◌≡◌, ◌+◌, List, [], ◌++◌, ℕ, Option, Some, None, length, take, refl, sym, ap, ◌∙◌, arith, append_assoc, append-nil, length-append}
-use Rattle.std.proofs.Math.Seq.{take-append-add, take-length}
-use Rattle.pf_base.specs.Told.{HoldsFront}
+use Rattle.std.proofs.Common.{◌≡◌, ◌+◌, List, [], ◌++◌, ℕ, Option, Some, None, length, refl, sym, ap, subst, ◌∙◌, arith, inl, append_assoc, append-nil, length-append}
+use Rattle.pf_base.specs.Objects.{Sinks, StopsBy, appended, joined}
+use Rattle.pf_base.specs.Told.{HoldsFront, Input, Output, Takes, wrote}
+use Rattle.pf_base.specs.declared.texts.SinkFault.TheVariants as fault
+use Rattle.pf_base.specs.declared.texts.Texts.{Texts}
 use Rattle.std.specs.Io.KnownBytes.{append_known, prepend_known}
 
 pub append_known-nil : (k : Option (List ℕ)) → append_known k [] ≡ k
@@ -20,19 +22,42 @@ pub prepend_known-append : (a b : List ℕ) (k : Option (List ℕ)) → prepend_
 prepend_known-append a b None = refl
 prepend_known-append a b (Some xs) = ap Some (sym (append_assoc a b xs))
 
+-- a text without bytes changes nothing
+pub wrote_none : (old : Output) → wrote old [] ≡ old
+wrote_none old = ap (λ k. record old { written = k }) (append_known-nil old.written)
+
+pub wrote_more : (old : Output) (a b : List ℕ) → wrote (wrote old a) b ≡ wrote old (a ++ b)
+wrote_more old a b = ap (λ k. record old { written = k }) (append_known-append old.written a b)
+
 -- nothing of a text was written
-pub front_none : (k : Option (List ℕ)) (text : List ℕ) → HoldsFront k k text
-front_none k text = (0, omega arith, sym (append_known-nil k))
+pub front_none : (old : Output) (text : List ℕ) → HoldsFront old old text
+front_none old text = (0, omega arith, sym (wrote_none old))
 
--- all of it was written
-pub front_whole : (old new : Option (List ℕ)) (text : List ℕ) → new ≡ append_known old text → HoldsFront old new text
-front_whole old new text is = (length text, omega arith, is ∙ ap (append_known old) (sym (take-length text)))
+-- the same of all sinks
+pub appended_none : (old : Sinks) → appended old (record { out = []; mail = []; log = [] }) ≡ old
+appended_none old = rw (wrote_none old.out, wrote_none old.mail, wrote_none old.log) refl
 
--- one text was written, and then a front of another
-pub front_after : (old mid new : Option (List ℕ)) (first second : List ℕ) → mid ≡ append_known old first → HoldsFront mid new second → HoldsFront old new (first ++ second)
-front_after old mid new first second is front = (
-  length first + front.0,
-  omega (arith, front.1, length-append first second),
-  front.2 ∙ ap (λ k. append_known k (take front.0 second)) is ∙ append_known-append old first (take front.0 second)
-      ∙ ap (append_known old) (sym (take-append-add first second front.0)),
-)
+pub appended_more : (old : Sinks) (a b : Texts) → appended (appended old a) b ≡ appended old (joined a b)
+appended_more old a b = rw (wrote_more old.out a.out b.out, wrote_more old.mail a.mail b.mail, wrote_more old.log a.log b.log) refl
+
+-- nothing was written, since memory was wanting before
+pub stops_first : (old : Sinks) (texts : Texts) → StopsBy fault.NoMemory old old texts
+stops_first old texts = inl (record { mail = front_none old.mail texts.mail; rest = refl })
+
+-- bytes were taken, and then others
+pub takes_more : {a b c : Input} {xs ys : List ℕ} → Takes a b xs → Takes b c ys → Takes a c (xs ++ ys)
+takes_more {a} {b} {c} {xs} {ys} first second = record {
+  left = first.left ∙ ap (prepend_known xs) second.left ∙ prepend_known-append xs ys c.left;
+  given = omega (arith, first.given, second.given, length-append xs ys);
+  faults = second.faults ∙ first.faults;
+}
+
+pub takes_none : (old : Input) → Takes old old []
+takes_none old = record { left = sym (prepend_known-nil old.left); given = omega arith; faults = refl }
+
+-- a read that gave nothing changed nothing
+pub takes_nothing : (old new : Input) → Takes old new [] → new ≡ old
+takes_nothing old new takes =
+    let left : new.left ≡ old.left = sym (takes.left ∙ prepend_known-nil new.left) in
+    let given : new.given ≡ old.given = omega (arith, takes.given) in
+    ap (λ l. record new { left = l }) left ∙ ap (λ g. record { left = old.left; given = g; faults = new.faults }) given ∙ ap (λ f. record old { faults = f }) takes.faults

@@ -1,40 +1,14 @@
--- Why a call answers a fault: only where the count of faults of the object that was handed in rose in that call.
--- Words of contracts, by no standard.
-use Rattle.std.specs.Prelude.{◌≡◌, ◌-◌, ℕ, ◌+◌, ◌^◌, ◌≤◌, min, Result, OnOk, OnErr, IsErrOf}
-use Rattle.pf_base.specs.declared.fault.OuterFault.{OuterFault}
-use Rattle.pf_base.specs.declared.fault.OuterFault.TheVariants.{Failed, NoMemory}
-use Rattle.pf_base.specs.declared.reading.ReadFault.{ReadFault}
-use Rattle.pf_base.specs.declared.reading.ReadFault.TheVariants.{Failed as ReadFailed, TooLarge, NoMemory as ReadNoMemory}
+-- Counts that never fall. Words of contracts, by no standard.
+use Rattle.std.specs.Prelude.{◌-◌, ℕ, ◌+◌, ◌^◌, ◌≤◌, min}
 
 -- a count goes up by one, and stays at the greatest u64
 abbrev pub counted : ℕ → ℕ
 counted n = min (n + 1) (2 ^ 64 - 1)
 
--- a count of faults rose; one that stands at the greatest u64 counts as risen
-abbrev pub Rose : ℕ → ℕ → Type 0
-Rose before now = counted before ≤ now
+-- a count goes up by so many, as far as the greatest u64 lets it
+abbrev pub counted_by : ℕ → ℕ → ℕ
+counted_by n count = count + min n (2 ^ 64 - 1 - count)
 
 -- a count rose by at least so many
 abbrev pub RoseBy : ℕ → ℕ → ℕ → Type 0
 RoseBy n before now = min (before + n) (2 ^ 64 - 1) ≤ now
-
--- a call with one fault: it came only where the count rose, and where the call was answered the count stayed
-pub record HasCause {T E : Type 0} (before now : ℕ) (result : Result T E) : Type 0 where
-  pub later : before ≤ now
-  pub failed : OnErr result (Rose before now)
-  pub kept : OnOk result (now ≡ before)
-
--- a call that may also want memory, which raises no count
-pub record HasOuterCause {T : Type 0} (before now : ℕ) (result : Result T OuterFault) : Type 0 where
-  pub later : before ≤ now
-  pub failed : IsErrOf result Failed → Rose before now
-  pub memory : IsErrOf result NoMemory → now ≡ before
-  pub kept : OnOk result (now ≡ before)
-
--- a call that reads a whole file
-pub record HasReadCause {T : Type 0} (before now : ℕ) (result : Result T ReadFault) : Type 0 where
-  pub later : before ≤ now
-  pub failed : IsErrOf result ReadFailed → Rose before now
-  pub large : IsErrOf result TooLarge → now ≡ before
-  pub memory : IsErrOf result ReadNoMemory → now ≡ before
-  pub kept : OnOk result (now ≡ before)

@@ -1,5 +1,5 @@
 -- Files as a list of names with their bytes: what is read of them and what a replacement leaves. By no standard.
-use Rattle.std.specs.Prelude.{◌≡◌, ◌<◌, ◌≤◌, ℕ, List, [], ◌∷◌, Option, None, Some, Result, Ok, Err, OnErr, OnOk, nat_lt, length, take, drop, ◌⊎◌, if◌then◌else◌}
+use Rattle.std.specs.Prelude.{◌≡◌, ◌<◌, ◌≤◌, ℕ, List, [], ◌∷◌, Option, None, Some, Result, Ok, Err, nat_lt, length, take, drop, if◌then◌else◌}
 use Rattle.std.specs.Option.{option_map}
 use Rattle.std.specs.List.{find}
 use Rattle.std.specs.Str.{bytes_eq}
@@ -22,11 +22,6 @@ pub record ReadsFrom (bytes : List ℕ) (at n : ℕ) (buf : List ℕ) : Type 0 w
   pub within : n ≤ length (drop at bytes)
   pub same : take n buf ≡ take n (drop at bytes)
   pub some : n ≡ 0 → 0 < length buf → drop at bytes ≡ []
-
--- a refused replacement leaves the files as before, or as after it
-pub record Replaces {T E : Type 0} (old new : Option (List Pair)) (result : Result T E) (name bytes : List ℕ) : Type 0 where
-  pub done : OnOk result (new ≡ option_map (λ files. with_file files name bytes) old)
-  pub refused : OnErr result ((new ≡ old) ⊎ (new ≡ option_map (λ files. with_file files name bytes) old))
 
 -- the most bytes of a file that is read whole: 64 MiB, which is postgate's own limit
 abbrev pub file_limit : ℕ

@@ -9,6 +9,8 @@ pub mod Lines
 pub mod Logical
 pub mod Memory
 pub mod Names
+pub mod Objects
+pub mod Printing
 pub mod Questions
 pub mod Refusal
 pub mod Space

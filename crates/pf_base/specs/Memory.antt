@@ -1,7 +1,8 @@
 -- The objects in memory, as contracts see them: each knows which of its calls fail, and how many there were. They are postgate's own.
-use Rattle.std.specs.Prelude.{◌≡◌, ◌≤◌, ℕ, ◌-◌, ◌^◌, ◌==◌, Bool, true, false, List, [], ◌∷◌, max, min, length, slice_index}
+use Rattle.std.specs.Prelude.{◌≡◌, ◌≤◌, ℕ, ◌-◌, ◌^◌, ◌==◌, Bool, true, false, List, [], ◌∷◌, Some, max, min, length, slice_index}
 use Rattle.std.specs.List.{list_any}
 use Rattle.pf_base.specs.Causes.{counted}
+use Rattle.pf_base.specs.Told.{Input, Output, Tree}
 use Rattle.pf_base.specs.declared.pair.Pair.{Pair}
 
 -- the numbers, from 1, of the calls that fail, how many calls were made, and how many of them failed
@@ -31,9 +32,10 @@ pub record CountsCall (old new : Calls) (fails : Bool) : Type 0 where
 abbrev pub MakesCall : Calls → Calls → Type 0
 MakesCall old new = CountsCall old new (fails_next old)
 
--- a source: the bytes that are left, the greatest sizes of reads in turn, and the calls
+-- a source: the bytes that are left, how many were given, the greatest sizes of reads in turn, and the calls
 pub record MemorySource : Type 0 where
   pub left : List ℕ
+  pub given : ℕ
   pub cuts : List ℕ
   pub calls : Calls
 
@@ -42,10 +44,21 @@ pub record MemorySink : Type 0 where
   pub written : List ℕ
   pub calls : Calls
 
--- files, and the calls
+-- files, how often one was read from, and the calls
 pub record MemoryFiles : Type 0 where
   pub files : List Pair
+  pub reads : ℕ
   pub calls : Calls
+
+-- what they tell
+abbrev pub source_told : MemorySource → Input
+source_told source = record { left = Some source.left; given = source.given; faults = source.calls.faults }
+
+abbrev pub sink_told : MemorySink → Output
+sink_told sink = record { written = Some sink.written; faults = sink.calls.faults }
+
+abbrev pub files_told : MemoryFiles → Tree
+files_told files = record { content = Some files.files; reads = files.reads; faults = files.calls.faults }
 
 -- the most bytes of the read of this number: the sizes in turn, the last one repeated, none below 1; with no size no limit
 abbrev pub greatest_read : List ℕ → ℕ → ℕ

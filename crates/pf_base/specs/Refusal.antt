@@ -1,7 +1,8 @@
 -- How a refusal is printed. The codes and their texts are postgate's own, by no standard.
-use Rattle.std.specs.Prelude.{ℕ, ◌++◌, ◌==◌, ◌||◌, nat_lt, List, [], ◌∷◌, map, codes, if◌then◌else◌}
+use Rattle.std.specs.Prelude.{ℕ, ◌++◌, List, [], ◌∷◌, codes}
 use Rattle.std.specs.Fmt.{decimal}
 use Rattle.std.specs.List.{flat_map}
+use Rattle.pf_base.specs.Printing.{printed_line}
 use Rattle.pf_base.specs.declared.refused.Cause.{Cause}
 use Rattle.pf_base.specs.declared.refused.Cause.TheVariants.{C1, C2, C3, C4, C5, C6, C7, C8, C9, C10, C11, C12, C13, C14, C15, C16}
 use Rattle.pf_base.specs.declared.refused.Refused.{Refused}
@@ -25,17 +26,13 @@ cause_text C14 = codes "C14 setting outside the profile"
 cause_text C15 = codes "C15 file too large"
 cause_text C16 = codes "C16 expansion too long"
 
--- control bytes print as question marks, so that a refusal is one line
-abbrev pub printable : ℕ → ℕ
-printable b = if nat_lt b 32 || b == 127 then 63 else b
-
 -- what a refusal names, behind a colon; nothing where it names nothing
 abbrev pub name_part : List ℕ → List ℕ
 name_part [] = []
-name_part (b ∷ bytes) = codes ": " ++ map printable (b ∷ bytes)
+name_part (b ∷ bytes) = codes ": " ++ (b ∷ bytes)
 
 -- the line of a refusal: its file, its line, its cause and what it names
 unfoldable pub refusal_line : Refused → List ℕ
-refusal_line refused = flat_map (λ part. part)
+refusal_line refused = printed_line (flat_map (λ part. part)
     (codes "postgate: " ∷ refused.file ∷ codes ":" ∷ decimal refused.line ∷ codes ": " ∷ cause_text refused.cause
-    ∷ name_part refused.name ∷ codes "\n" ∷ [])
+    ∷ name_part refused.name ∷ []))

@@ -1,19 +1,92 @@
--- What an object outside tells of its content, before and after a call. An object that tells nothing has None.
--- Words of contracts, by no standard.
-use Rattle.std.specs.Prelude.{◌≡◌, ◌<◌, ◌≤◌, ℕ, List, Option, Result, OnOk, OnErr, MatchResult, length, take}
+-- What each object outside tells contracts, and what a call on it changes of that. An object that does not tell its content has None there;
+-- its counts are told always. Words of contracts, by no standard.
+use Rattle.std.specs.Prelude.{◌≡◌, ◌<◌, ◌≤◌, ◌⊎◌, ℕ, List, Option, Result, OnOk, OnErr, IsErrOf, MatchResult, length, take}
 use Rattle.std.specs.Io.KnownBytes.{prepend_known, append_known, IsAtEnd}
+use Rattle.std.specs.Option.{option_map}
+use Rattle.pf_base.specs.Causes.{counted, counted_by}
+use Rattle.pf_base.specs.FileList.{with_file}
+use Rattle.pf_base.specs.declared.fault.OuterFault.{OuterFault}
+use Rattle.pf_base.specs.declared.fault.OuterFault.TheVariants.{Failed, NoMemory}
+use Rattle.pf_base.specs.declared.pair.Pair.{Pair}
+use Rattle.pf_base.specs.declared.reading.ReadFault.{ReadFault}
+use Rattle.pf_base.specs.declared.reading.ReadFault.TheVariants.{Failed as ReadFailed, TooLarge, NoMemory as ReadNoMemory}
 
--- a read took the bytes that it put into the buffer, none at the end alone; a refused one took nothing
-abbrev pub Reads : {E : Type 0} → Option (List ℕ) → Option (List ℕ) → Result ℕ E → List ℕ → Type 0
+-- where bytes come from: those that are left, how many were given, and how often a read failed
+pub record Input : Type 0 where
+  pub left : Option (List ℕ)
+  pub given : ℕ
+  pub faults : ℕ
+
+-- where bytes go: those that were written, and how often a write failed
+pub record Output : Type 0 where
+  pub written : Option (List ℕ)
+  pub faults : ℕ
+
+-- files: their names with their bytes, how often a file was read from, and how often a call failed
+pub record Tree : Type 0 where
+  pub content : Option (List Pair)
+  pub reads : ℕ
+  pub faults : ℕ
+
+-- a call failed, and was counted
+abbrev pub failed_input : Input → Input
+failed_input old = record old { faults = counted old.faults }
+
+abbrev pub failed_output : Output → Output
+failed_output old = record old { faults = counted old.faults }
+
+abbrev pub failed_tree : Tree → Tree
+failed_tree old = record old { faults = counted old.faults }
+
+-- these bytes were taken, and counted
+pub record Takes (old new : Input) (bytes : List ℕ) : Type 0 where
+  pub left : old.left ≡ prepend_known bytes new.left
+  pub given : new.given ≡ counted_by (length bytes) old.given
+  pub faults : new.faults ≡ old.faults
+
+-- a read took the bytes that it put into the buffer, none at the end alone; a failed one took nothing
+abbrev pub Reads : {E : Type 0} → Input → Input → Result ℕ E → List ℕ → Type 0
 Reads old new result buf = MatchResult result
-    (λ n. (old ≡ prepend_known (take n buf) new) × (n ≡ 0 → 0 < length buf → IsAtEnd old))
-    (λ _. new ≡ old)
+    (λ n. Takes old new (take n buf) × (n ≡ 0 → 0 < length buf → IsAtEnd old.left))
+    (λ _. new ≡ failed_input old)
 
--- what was told before, and a front of a text
-abbrev pub HoldsFront : Option (List ℕ) → Option (List ℕ) → List ℕ → Type 0
-HoldsFront old new text = (n : ℕ) × (n ≤ length text) × (new ≡ append_known old (take n text))
+-- a text was written
+abbrev pub wrote : Output → List ℕ → Output
+wrote old text = record old { written = append_known old.written text }
 
--- a write added the whole piece; a refused one added a front of it
-pub record Writes {T E : Type 0} (old new : Option (List ℕ)) (result : Result T E) (piece : List ℕ) : Type 0 where
-  pub whole : OnOk result (new ≡ append_known old piece)
-  pub front : OnErr result (HoldsFront old new piece)
+-- a front of a text was written
+abbrev pub HoldsFront : Output → Output → List ℕ → Type 0
+HoldsFront old new text = (n : ℕ) × (n ≤ length text) × (new ≡ wrote old (take n text))
+
+-- a write added the whole piece; a refused one added a front of it, and one that failed was counted
+pub record Writes {T : Type 0} (old new : Output) (result : Result T OuterFault) (piece : List ℕ) : Type 0 where
+  pub whole : OnOk result (new ≡ wrote old piece)
+  pub failed : IsErrOf result Failed → HoldsFront (failed_output old) new piece
+  pub memory : IsErrOf result NoMemory → HoldsFront old new piece
+
+-- a call that changes no file
+pub record Looks {T E : Type 0} (old new : Tree) (result : Result T E) : Type 0 where
+  pub kept : OnOk result (new ≡ old)
+  pub failed : OnErr result (new ≡ failed_tree old)
+
+-- a file was read from once more
+abbrev pub read_once : Tree → Tree
+read_once old = record old { reads = counted old.reads }
+
+-- a file has these bytes
+abbrev pub replaced : List ℕ → List ℕ → Tree → Tree
+replaced name bytes old = record old { content = option_map (λ files. with_file files name bytes) old.content }
+
+-- a replacement put the bytes in the place of the file; a refused one left the files as before or as after it, and one that failed was counted
+pub record Replaces {T : Type 0} (old new : Tree) (result : Result T OuterFault) (name bytes : List ℕ) : Type 0 where
+  pub done : OnOk result (new ≡ replaced name bytes old)
+  pub failed : IsErrOf result Failed → (new ≡ failed_tree old) ⊎ (new ≡ failed_tree (replaced name bytes old))
+  pub memory : IsErrOf result NoMemory → (new ≡ old) ⊎ (new ≡ replaced name bytes old)
+
+-- a file was read whole, by any number of reads, of which the last may have failed
+pub record ReadsWhole {T : Type 0} (old new : Tree) (result : Result T ReadFault) : Type 0 where
+  pub same : new.content ≡ old.content
+  pub failed : IsErrOf result ReadFailed → new.faults ≡ counted old.faults
+  pub large : IsErrOf result TooLarge → new.faults ≡ old.faults
+  pub memory : IsErrOf result ReadNoMemory → new.faults ≡ old.faults
+  pub kept : OnOk result (new.faults ≡ old.faults)

@@ -4,8 +4,7 @@ ghost use Rattle.std.specs.List.{find, list_any, position};
 ghost use Rattle.std.specs.Option.{option_copied, option_map};
 ghost use Rattle.std.specs.Str.{bytes_eq};
 ghost use Rattle.std.specs.Io.{ReadsAtMost};
-ghost use Rattle.pf_base.specs.Causes.{HasCause, HasOuterCause};
-ghost use Rattle.pf_base.specs.Told.{Reads, Writes};
+ghost use Rattle.pf_base.specs.Told.{Looks, Reads, Replaces, Writes, read_once};
 
 use crate::bytes::Bytes;
 use crate::fault::{Failed, NoMemory, OuterFault};
@@ -80,6 +79,7 @@ fn copy_front(buf: &mut [u8], left: &[u8], greatest: usize) -> usize
 pub struct MemSource {
     bytes: Bytes,
     at: usize,
+    given: u64,
     cuts: List<u64>,
     schedule: Schedule,
 }
@@ -90,7 +90,12 @@ impl Model for MemSource {
 
     ghost Value = { MemorySource };
 
-    ghost view = { λ source. record { left = drop source.at source.bytes; cuts = source.cuts; calls = source.schedule } };
+    ghost view = { λ source. record {
+        left = drop source.at source.bytes;
+        given = source.given;
+        cuts = source.cuts;
+        calls = source.schedule;
+    } };
 
     ghost invariant = { λ source. source.at ≤ length source.bytes };
 }
@@ -101,11 +106,12 @@ impl MemSource {
     /// These bytes. `cuts` are the greatest sizes of successive reads in bytes, the last one repeated; a cut of 0 counts
     /// as 1, and an empty list sets no limit. `failing` are the numbers, from 1, of the reads that fail.
     pub fn new(bytes: Bytes, cuts: List<u64>, failing: List<u64>) -> MemSource
-        ensures { result ≡ record { left = bytes; cuts = cuts; calls = none_made failing } }
+        ensures { result ≡ record { left = bytes; given = 0; cuts = cuts; calls = none_made failing } }
     {
         MemSource {
             bytes,
             at: 0,
+            given: 0,
             cuts,
             schedule: Schedule::new(failing),
         }
@@ -129,16 +135,13 @@ impl MemSource {
 }
 
 impl Source for MemSource {
-    ghost use Rattle.pf_base.specs.Memory.{MakesCall, bytes_read, fails_next};
+    ghost use Rattle.pf_base.specs.Memory.{MakesCall, bytes_read, fails_next, source_told};
 
-    ghost left = { λ source. Some source.left };
-
-    ghost faults = { λ source. source.calls.faults };
+    ghost told = { source_told };
 
     fn read(&mut self, buf: &mut [u8]) -> Result<usize, Failed>
         ensures bound { ReadsAtMost result buf.new }
-        ensures bytes { Reads (Some self.old.left) (Some self.new.left) result buf.new }
-        ensures cause { HasCause self.old.calls.faults self.new.calls.faults result }
+        ensures bytes { Reads (source_told self.old) (source_told self.new) result buf.new }
         ensures fails { is_err result ≡ fails_next self.old.calls }
         ensures count { IfOk result (λ n. n ≡ bytes_read self.old (length buf.new)) }
         ensures call { MakesCall self.old.calls self.new.calls }
@@ -151,6 +154,7 @@ impl Source for MemSource {
         let left = &self.bytes.as_slice()[self.at..];
         let count = copy_front(buf, left, greatest);
         self.at += count;
+        self.given = self.given.saturating_add(count as u64);
         Ok(count)
     }
 }
@@ -192,15 +196,12 @@ impl MemSink {
 }
 
 impl Sink for MemSink {
-    ghost use Rattle.pf_base.specs.Memory.{MakesCall, fails_next};
+    ghost use Rattle.pf_base.specs.Memory.{MakesCall, fails_next, sink_told};
 
-    ghost written = { λ sink. Some sink.written };
-
-    ghost faults = { λ sink. sink.calls.faults };
+    ghost told = { sink_told };
 
     fn write(&mut self, piece: &[u8]) -> Result<(), OuterFault>
-        ensures bytes { Writes (Some self.old.written) (Some self.new.written) result piece.now }
-        ensures cause { HasOuterCause self.old.calls.faults self.new.calls.faults result }
+        ensures bytes { Writes (sink_told self.old) (sink_told self.new) result piece.now }
         ensures fails { (result ≡ Err OuterFault.Failed) ↔ (fails_next self.old.calls ≡ true) }
         ensures call { MakesCall self.old.calls self.new.calls }
     {
@@ -219,6 +220,7 @@ impl Sink for MemSink {
 pub struct MemFiles {
     alloc: Global,
     files: List<Pair>,
+    reads: u64,
     schedule: Schedule,
 }
 
@@ -227,7 +229,7 @@ impl Model for MemFiles {
 
     ghost Value = { MemoryFiles };
 
-    ghost view = { λ files. record { files = files.files; calls = files.schedule } };
+    ghost view = { λ files. record { files = files.files; reads = files.reads; calls = files.schedule } };
 }
 
 impl MemFiles {
@@ -237,11 +239,12 @@ impl MemFiles {
     /// These files, each a name with its bytes; of several with one name the first counts. `failing` are the numbers,
     /// from 1, of the calls that fail.
     pub fn new(alloc: Global, files: List<Pair>, failing: List<u64>) -> MemFiles
-        ensures { result ≡ record { files = files; calls = none_made failing } }
+        ensures { result ≡ record { files = files; reads = 0; calls = none_made failing } }
     {
         MemFiles {
             alloc,
             files,
+            reads: 0,
             schedule: Schedule::new(failing),
         }
     }
@@ -289,18 +292,15 @@ impl MemFiles {
 }
 
 impl Files for MemFiles {
-    ghost use Rattle.pf_base.specs.Memory.{MakesCall, fails_next};
-    ghost use Rattle.pf_base.specs.FileList.{file_of, ReadsFrom, Replaces};
+    ghost use Rattle.pf_base.specs.Memory.{MakesCall, fails_next, files_told};
+    ghost use Rattle.pf_base.specs.FileList.{file_of, ReadsFrom};
     ghost use Rattle.pf_base.specs.declared.pair.Pair.{Pair};
 
-    ghost content = { λ files. Some files.files };
-
-    ghost faults = { λ files. files.calls.faults };
+    ghost told = { files_told };
 
     fn size(&mut self, name: &str) -> Result<Option<u64>, Failed>
         ensures told { IfOk result (λ size. size ≡ option_map length (file_of self.old.files name.now)) }
-        ensures same { self.new.files ≡ self.old.files }
-        ensures cause { HasCause self.old.calls.faults self.new.calls.faults result }
+        ensures same { Looks (files_told self.old) (files_told self.new) result }
         ensures fails { is_err result ≡ fails_next self.old.calls }
         ensures call { MakesCall self.old.calls self.new.calls }
     {
@@ -313,11 +313,12 @@ impl Files for MemFiles {
     fn read_at(&mut self, name: &str, at: u64, buf: &mut [u8]) -> Result<usize, Failed>
         ensures bound { ReadsAtMost result buf.new }
         ensures told { IfOk result (λ n. ReadsFrom (unwrap_or (file_of self.old.files name.now) []) at n buf.new) }
-        ensures same { self.new.files ≡ self.old.files }
-        ensures cause { HasCause self.old.calls.faults self.new.calls.faults result }
+        ensures whole { IfOk result (λ n. n ≡ min (length (drop at (unwrap_or (file_of self.old.files name.now) []))) (length buf.old)) }
+        ensures same { Looks (read_once (files_told self.old)) (files_told self.new) result }
         ensures fails { is_err result ≡ fails_next self.old.calls }
         ensures call { MakesCall self.old.calls self.new.calls }
     {
+        self.reads = self.reads.saturating_add(1);
         if self.schedule.next() {
             return Err(Failed);
         }
@@ -331,8 +332,7 @@ impl Files for MemFiles {
     }
 
     fn replace(&mut self, name: &str, bytes: &[u8]) -> Result<(), OuterFault>
-        ensures files { Replaces (Some self.old.files) (Some self.new.files) result name.now bytes.now }
-        ensures cause { HasOuterCause self.old.calls.faults self.new.calls.faults result }
+        ensures files { Replaces (files_told self.old) (files_told self.new) result name.now bytes.now }
         ensures fails { (result ≡ Err OuterFault.Failed) ↔ (fails_next self.old.calls ≡ true) }
         ensures call { MakesCall self.old.calls self.new.calls }
     {

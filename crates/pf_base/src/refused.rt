@@ -1,10 +1,11 @@
 //! Why a configuration or a table is refused, and where.
-ghost use Rattle.std.specs.Prelude.{◌≡◌, ◌++◌, map, IfOk, OnOk};
+ghost use Rattle.std.specs.Prelude.{◌≡◌, IfOk};
 ghost use Rattle.pf_base.specs.Refusal as refusal;
 
 use crate::bytes::Bytes;
 use crate::fault::NoMemory;
 use crate::numbers::decimal;
+use crate::printing::add_line;
 use std::alloc::Global;
 
 /// The cause of a refusal, in the order of the codes, which are postgate's own.
@@ -86,17 +87,6 @@ fn cause_text(cause: Cause) -> &'static [u8]
     }
 }
 
-// Adds bytes, control bytes as question marks.
-fn print_name(name: &[u8], text: &mut Bytes) -> Result<(), NoMemory>
-    ensures { OnOk result (text.new ≡ text.old ++ map refusal.printable name.now) }
-{
-    for b in name {
-        let shown = if *b < 32 || *b == 127 { b'?' } else { *b };
-        text.push(shown)?;
-    }
-    Ok(())
-}
-
 // What a refusal names, behind a colon; nothing where it names nothing.
 fn name_part(alloc: Global, name: &[u8]) -> Result<Bytes, NoMemory>
     ensures { IfOk result (λ part. part ≡ refusal.name_part name.now) }
@@ -105,14 +95,13 @@ fn name_part(alloc: Global, name: &[u8]) -> Result<Bytes, NoMemory>
     if name.is_empty() {
         return Ok(part);
     }
-    part.extend(b": ")?;
-    print_name(name, &mut part)?;
+    part.extend_all(&[b": ", name])?;
     Ok(part)
 }
 
 impl Refused {
     /// The line of the refusal, with its line feed: `postgate: FILE:LINE: CODE TEXT: NAME`, without the colon and NAME
-    /// where it names nothing. Control bytes of NAME are printed as question marks.
+    /// where it names nothing. Control bytes are printed as question marks.
     #[tactic(auto, unfolding(crate::specs::Refusal::refusal_line))]
     pub fn line(&self, alloc: Global) -> Result<Bytes, NoMemory>
         ensures { IfOk result (λ line. line ≡ refusal.refusal_line self.now) }
@@ -120,8 +109,8 @@ impl Refused {
         let number = decimal(alloc, self.line)?;
         let cause = Bytes::from_slice(alloc, cause_text(self.cause))?;
         let name = name_part(alloc, self.name.as_slice())?;
-        let mut line = Bytes::new(alloc);
-        line.extend_all(&[
+        let mut text = Bytes::new(alloc);
+        text.extend_all(&[
             b"postgate: ",
             self.file.as_slice(),
             b":",
@@ -129,8 +118,9 @@ impl Refused {
             b": ",
             cause.as_slice(),
             name.as_slice(),
-            b"\n",
         ])?;
+        let mut line = Bytes::new(alloc);
+        add_line(&mut line, text.as_slice())?;
         Ok(line)
     }
 }
