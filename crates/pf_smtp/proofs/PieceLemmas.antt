@@ -5,14 +5,16 @@ use Rattle.std.proofs.lemmas.List.Concat.{flat_map-append}
 use Rattle.std.proofs.Math.Seq.{take-append-add}
 use Rattle.pf_base.specs.Lines.{lines, rest, onto_line, unless_line}
 use Rattle.pf_base.proofs.LineEnds.{rest_of_none}
+use Rattle.pf_base.specs.Objects.{joined}
+use Rattle.pf_base.specs.declared.texts.Texts.{Texts}
 use Rattle.pf_smtp.specs.Gathering.{AnswersLine, AnswersPiece, ComesDownTo, line_given}
-use Rattle.pf_smtp.specs.Feeding.{given, part_behind}
+use Rattle.pf_smtp.specs.Feeding.{given, part_behind, texts_of}
 use Rattle.pf_smtp.specs.Session.{stays, before, steps, replies_text, records_text, log_text}
 use Rattle.pf_smtp.specs.Step.{Step}
 use Rattle.pf_smtp.specs.Text.{text_of, record_text, log_line}
-use Rattle.pf_smtp.specs.declared.standing.Gathered.{Gathered}
 use Rattle.pf_smtp.specs.declared.standing.Standing.{Standing}
 use Rattle.pf_smtp.specs.declared.state.Setup.{Setup}
+use Rattle.pf_smtp.specs.declared.state.State.{State}
 use Rattle.pf_smtp.proofs.StepLemmas.{steps_over, onto_line_nothing}
 
 -- what a buffer keeps of more bytes
@@ -40,6 +42,20 @@ records_text-before a b = flat_map-append record_text a.records b.records
 pub log_text-before : (a b : Step) → log_text (before a b) ≡ log_text a ++ log_text b
 log_text-before a b = flat_map-append log_line a.entries b.entries
 
+-- what two steps in turn have it write
+pub texts-before : (setup : Setup) (a b : Step) → texts_of setup (before a b) ≡ joined (texts_of setup a) (texts_of setup b)
+texts-before setup a b = rw (replies_text-before setup a b, records_text-before a b, log_text-before a b) refl
+
+joined_none : (t : Texts) (setup : Setup) (state : State) → joined t (texts_of setup (stays state)) ≡ t
+joined_none t setup state = rw (append-nil t.out, append-nil t.mail, append-nil t.log) refl
+
+joined_assoc : (a b c : Texts) → joined (joined a b) c ≡ joined a (joined b c)
+joined_assoc a b c = rw (append_assoc a.out b.out c.out, append_assoc a.mail b.mail c.mail, append_assoc a.log b.log c.log) refl
+
+pub same_texts : {a b : Texts} → a.out ≡ b.out → a.mail ≡ b.mail → a.log ≡ b.log → a ≡ b
+same_texts {a} {b} out mail log =
+    ap (λ x. record a { out = x }) out ∙ ap (λ x. record { out = b.out; mail = x; log = a.log }) mail ∙ ap (λ x. record b { log = x }) log
+
 -- where a session stands behind a line
 abbrev pub behind_line : Standing → List ℕ → Standing
 behind_line s line = record { setup = s.setup; state = (line_given s line).next; part = [] }
@@ -56,31 +72,25 @@ part_line s left line behind e r = rw (e, r) (ap (take 2050) (none (lines behind
   none (l ∷ ls) h = refl
 
 -- nothing is left to answer
-pub answers_at_end : {b n : Gathered} {old new : Standing} {piece left : List ℕ} → ComesDownTo b n old new piece left → given new left ≡ stays new.state
+pub answers_at_end : {b n : Texts} {old new : Standing} {piece left : List ℕ} → ComesDownTo b n old new piece left → given new left ≡ stays new.state
     → (part : List ℕ) → (new.state.over ≡ false → part ≡ part_behind new left) → AnswersPiece b n old (record { setup = new.setup; state = new.state; part = part }) piece
 answers_at_end {b} {n} {old} {new} {piece} {left} c e part h = record {
-  out = sym (c.out ∙ ap (λ g. n.out ++ replies_text new.setup g) e ∙ append-nil n.out);
-  mail = sym (c.mail ∙ ap (λ g. n.mail ++ records_text g) e ∙ append-nil n.mail);
-  log = sym (c.log ∙ ap (λ g. n.log ++ log_text g) e ∙ append-nil n.log);
+  texts = sym (c.texts ∙ ap (λ g. joined n (texts_of new.setup g)) e ∙ joined_none n new.setup new.state);
   setup = c.setup;
   state = sym (c.state ∙ ap (λ g. g.next) e);
   part = λ over. h over ∙ sym c.part;
 }
 
 -- one more line was answered
-pub comes_down_line : {b n m : Gathered} {old s t : Standing} {piece left line : List ℕ} (behind : List ℕ) → ComesDownTo b n old s piece left → AnswersLine n m s t line
+pub comes_down_line : {b n m : Texts} {old s t : Standing} {piece left line : List ℕ} (behind : List ℕ) → ComesDownTo b n old s piece left → AnswersLine n m s t line
     → lines left ≡ line ∷ lines behind → rest left ≡ rest behind → s.state.over ≡ false → ComesDownTo b m old t piece behind
 comes_down_line {b} {n} {m} {old} {s} {t} {piece} {left} {line} behind c a e r over =
     let first = line_given s line in
     let next = given (behind_line s line) behind in
     let g = given_line s left line behind e over in
     subst (λ u. ComesDownTo b m old u piece behind) (sym a.standing) (record {
-      out = c.out ∙ ap (λ x. n.out ++ replies_text s.setup x) g ∙ ap (λ x. n.out ++ x) (replies_text-before s.setup first next)
-          ∙ sym (append_assoc n.out (replies_text s.setup first) (replies_text s.setup next)) ∙ ap (λ x. x ++ replies_text s.setup next) (sym a.out);
-      mail = c.mail ∙ ap (λ x. n.mail ++ records_text x) g ∙ ap (λ x. n.mail ++ x) (records_text-before first next)
-          ∙ sym (append_assoc n.mail (records_text first) (records_text next)) ∙ ap (λ x. x ++ records_text next) (sym a.mail);
-      log = c.log ∙ ap (λ x. n.log ++ log_text x) g ∙ ap (λ x. n.log ++ x) (log_text-before first next)
-          ∙ sym (append_assoc n.log (log_text first) (log_text next)) ∙ ap (λ x. x ++ log_text next) (sym a.log);
+      texts = c.texts ∙ ap (λ x. joined n (texts_of s.setup x)) g ∙ ap (joined n) (texts-before s.setup first next)
+          ∙ sym (joined_assoc n (texts_of s.setup first) (texts_of s.setup next)) ∙ ap (λ x. joined x (texts_of s.setup next)) (sym a.texts);
       setup = c.setup;
       state = c.state ∙ ap (λ x. x.next) g;
       part = c.part ∙ part_line s left line behind e r;

@@ -1,16 +1,17 @@
 -- Worked examples of the definitions, each by computation.
 use Rattle.std.proofs.Common.{◌≡◌, ◌++◌, true, false, [], ◌∷◌, map, replicate, length, None, Some, refl, codes}
 use Rattle.std.specs.Fmt.{digits}
+use Rattle.pf_base.specs.Printing.{printed_line}
 use Rattle.pf_eval.specs.Judge.{end_of}
 use Rattle.pf_eval.specs.declared.policy.PlainEnd.TheVariants.{Accept, Deny}
 use Rattle.pf_eval.specs.declared.policy.PlainItem.TheVariants.{PermitMynetworks, RejectUnauthDestination}
 use Rattle.pf_smtp.specs.Command.{after_keyword, argument_of, verb_named, verb_of}
 use Rattle.pf_smtp.specs.Gathering.{line_given}
 use Rattle.pf_smtp.specs.Path.{address_of, bracketed, is_local_byte, is_local_part, path_of}
-use Rattle.pf_smtp.specs.Feeding.{faults, fresh, given, going_of, part_behind, told}
+use Rattle.pf_smtp.specs.Feeding.{fresh, given, going_of, part_behind, texts_given}
 use Rattle.pf_smtp.specs.Session.{before, log_text, records_text, replies_text, session, start, stays, steps}
 use Rattle.pf_smtp.specs.Step.{command, helo, judged, line_step, logs, mail, mail_address, mail_path, quit, rcpt, rcpt_address, rcpt_path, says, step}
-use Rattle.pf_smtp.specs.Text.{accepted_line, crlf, denied_line, greeting_of, helo_text, joined, line_text, log_line, mail_text, quit_text, rcpt_text}
+use Rattle.pf_smtp.specs.Text.{accepted_text, crlf, denied_text, greeting_of, helo_text, joined, line_text, log_line, mail_text, quit_text, rcpt_text}
 use Rattle.pf_smtp.specs.Text.{relay_denied_text, reply_text, text_of}
 use Rattle.pf_smtp.specs.declared.command.Verb.TheVariants as verb
 use Rattle.pf_smtp.specs.declared.entry.Entry.TheVariants.{Accepted, Denied}
@@ -277,7 +278,7 @@ no_text : replies_text site (stays idle) ≡ []
 no_text = refl
 
 log_lines_of_a_step : map log_text (judged begun ann Accept ∷ stays begun ∷ []) ≡ codes "7 RCPT <ann@Example.com> accept\n" ∷ [] ∷ []
-unfolding accepted_line digits
+unfolding log_line printed_line accepted_text digits
 log_lines_of_a_step = refl
 
 before_the_first_byte : fresh site ≡ record { setup = site; state = start; part = [] }
@@ -303,14 +304,8 @@ part_of_a_line = refl
 longest_part : length (part_behind (fresh site) (replicate 2051 97)) ≡ 2050
 longest_part = refl
 
-three_sinks : told None (Some []) (Some (codes "a")) ≡ record { out = None; mail = Some []; log = Some (codes "a") }
-three_sinks = refl
-
 over_or_not : map going_of (idle ∷ ended ∷ []) ≡ More ∷ Over ∷ []
 over_or_not = refl
-
-three_counts : faults 1 2 3 ≡ record { out = 1; mail = 2; log = 3 }
-three_counts = refl
 
 -- texts of replies
 parts_in_turn : joined (codes "a" ∷ [] ∷ codes "bc" ∷ []) ≡ codes "abc"
@@ -367,16 +362,24 @@ greeting_by_another_banner : greeting_of (codes "a b") ≡ codes "220 a b\r\n"
 unfolding greeting_of
 greeting_by_another_banner = refl
 
+control_bytes_in_a_greeting : greeting_of (codes "a\tb\n") ≡ codes "220 a?b?\r\n"
+unfolding greeting_of
+control_bytes_in_a_greeting = refl
+
+control_bytes_in_a_reply : text_of (codes "m\rx") (Helo Hello) ≡ codes "250 m?x\r\n"
+unfolding text_of helo_text
+control_bytes_in_a_reply = refl
+
 -- log lines
-accepted_recipient : accepted_line 12 ann ≡ codes "12 RCPT <ann@Example.com> accept\n"
-unfolding accepted_line digits
+accepted_recipient : accepted_text 12 ann ≡ codes "12 RCPT <ann@Example.com> accept"
+unfolding accepted_text digits
 accepted_recipient = refl
 
-denied_recipient : denied_line 3 joe 10 ≡ codes "3 RCPT <joe@other.test> deny smtpd_relay_restrictions[10] reject_unauth_destination -\n"
-unfolding denied_line digits
+denied_recipient : denied_text 3 joe 10 ≡ codes "3 RCPT <joe@other.test> deny smtpd_relay_restrictions[10] reject_unauth_destination -"
+unfolding denied_text digits
 denied_recipient = refl
 
 either_log_line : map log_line (Accepted 1 ann ∷ Denied 2 joe 1 ∷ []) ≡ codes "1 RCPT <ann@Example.com> accept\n"
     ∷ codes "2 RCPT <joe@other.test> deny smtpd_relay_restrictions[1] reject_unauth_destination -\n" ∷ []
-unfolding accepted_line denied_line digits
+unfolding log_line printed_line accepted_text denied_text digits
 either_log_line = refl

@@ -3,6 +3,7 @@
 use Rattle.std.specs.Prelude.{ℕ, ◌++◌, List, [], ◌∷◌, codes}
 use Rattle.std.specs.Fmt.{decimal}
 use Rattle.std.specs.List.{flat_map}
+use Rattle.pf_base.specs.Printing.{printed, printed_line}
 use Rattle.pf_smtp.specs.declared.path.Address.{Address}
 use Rattle.pf_smtp.specs.declared.entry.Entry.{Entry}
 use Rattle.pf_smtp.specs.declared.entry.Entry.TheVariants.{Accepted, Denied}
@@ -71,30 +72,34 @@ reply_text host (Mail reply) = mail_text reply
 reply_text host (Rcpt reply) = rcpt_text reply
 reply_text host (Quit reply) = quit_text reply
 
--- a reply as it is sent
+-- a reply as it is sent: as it is printed, and its line end
 unfoldable pub text_of : List ℕ → Reply → List ℕ
-text_of host reply = reply_text host reply ++ crlf
+text_of host reply = printed (reply_text host reply) ++ crlf
 
 -- what a server says first: its banner behind the code (postconf(5), smtpd_banner; RFC 5321, 4.2)
 unfoldable pub greeting_of : List ℕ → List ℕ
-greeting_of banner = joined (codes "220 " ∷ banner ∷ crlf ∷ [])
+greeting_of banner = printed (codes "220 " ++ banner) ++ crlf
 
 -- a line of a message's record; no verb of today gives one
 abbrev pub record_text : RecordLine → List ℕ
 record_text line = elim line [ ]
 
 -- a recipient that was accepted
-unfoldable pub accepted_line : ℕ → Address → List ℕ
-accepted_line line recipient =
-    joined (decimal line ∷ codes " RCPT <" ∷ recipient.local ∷ codes "@" ∷ recipient.domain ∷ codes "> accept\n" ∷ [])
+unfoldable pub accepted_text : ℕ → Address → List ℕ
+accepted_text line recipient =
+    joined (decimal line ∷ codes " RCPT <" ∷ recipient.local ∷ codes "@" ∷ recipient.domain ∷ codes "> accept" ∷ [])
 
 -- a recipient that was denied, with the place of the restriction in its list
-unfoldable pub denied_line : ℕ → Address → ℕ → List ℕ
-denied_line line recipient place =
+unfoldable pub denied_text : ℕ → Address → ℕ → List ℕ
+denied_text line recipient place =
     joined (decimal line ∷ codes " RCPT <" ∷ recipient.local ∷ codes "@" ∷ recipient.domain
-    ∷ codes "> deny smtpd_relay_restrictions[" ∷ decimal place ∷ codes "] reject_unauth_destination -\n" ∷ [])
+    ∷ codes "> deny smtpd_relay_restrictions[" ∷ decimal place ∷ codes "] reject_unauth_destination -" ∷ [])
 
--- a line of the decision log, with the number of the command's line
-abbrev pub log_line : Entry → List ℕ
-log_line (Accepted line recipient) = accepted_line line recipient
-log_line (Denied line recipient place) = denied_line line recipient place
+-- what was decided of a recipient, with the number of the command's line
+abbrev pub entry_text : Entry → List ℕ
+entry_text (Accepted line recipient) = accepted_text line recipient
+entry_text (Denied line recipient place) = denied_text line recipient place
+
+-- its line in the decision log
+unfoldable pub log_line : Entry → List ℕ
+log_line entry = printed_line (entry_text entry)

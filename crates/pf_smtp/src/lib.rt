@@ -15,6 +15,6 @@ pub use entry::Entry;
 pub use path::Address;
 pub use record_line::RecordLine;
 pub use reply::{HeloReply, LineReply, MailReply, QuitReply, RcptReply, Reply};
-pub use session::{Going, Session, SessionFault};
+pub use session::{Going, Session};
 pub use standing::{LineBuffer, Standing};
 pub use state::{Setup, State};

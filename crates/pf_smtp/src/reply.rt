@@ -3,7 +3,8 @@ ghost use Rattle.std.specs.Prelude.{◌≡◌, ◌++◌, OnOk};
 ghost use Rattle.pf_smtp.specs.Text as text;
 
 use crate::path::Address;
-use pf_base::{Bytes, NoMemory};
+use pf_base::{Bytes, NoMemory, add_printed};
+use std::alloc::Global;
 
 /// The replies to a line that is no command.
 #[derive(Clone, Copy, Debug, PartialEq, Eq)]
@@ -155,21 +156,35 @@ impl Reply {
         }
     }
 
-    /// Adds the reply as it is sent, with its line end; `host` is the server's name.
+    /// Adds the reply as it is sent, control bytes as question marks, with its line end; `host` is the server's name.
     #[tactic(auto, unfolding(crate::specs::Text::text_of))]
-    pub(crate) fn print(&self, host: &[u8], sent: &mut Bytes) -> Result<(), NoMemory>
+    pub(crate) fn print(
+        &self,
+        alloc: Global,
+        host: &[u8],
+        sent: &mut Bytes,
+    ) -> Result<(), NoMemory>
         ensures { OnOk result (sent.new ≡ sent.old ++ text.text_of host.now self.now) }
     {
-        self.print_text(host, sent)?;
-        sent.extend(b"\r\n")?;
-        Ok(())
+        let mut text = Bytes::new(alloc);
+        self.print_text(host, &mut text)?;
+        add_printed(sent, text.as_slice())?;
+        sent.extend(b"\r\n")
     }
 }
 
-/// Adds what the server says first, with its line end; `banner` is what stands behind the code (postconf(5), smtpd_banner).
+/// Adds what the server says first, control bytes as question marks, with its line end; `banner` is what stands behind the code
+/// (postconf(5), smtpd_banner).
 #[tactic(auto, unfolding(crate::specs::Text::greeting_of))]
-pub(crate) fn print_greeting(banner: &[u8], sent: &mut Bytes) -> Result<(), NoMemory>
+pub(crate) fn print_greeting(
+    alloc: Global,
+    banner: &[u8],
+    sent: &mut Bytes,
+) -> Result<(), NoMemory>
     ensures { OnOk result (sent.new ≡ sent.old ++ text.greeting_of banner.now) }
 {
-    sent.extend_all(&[b"220 ", banner, b"\r\n"])
+    let mut text = Bytes::new(alloc);
+    text.extend_all(&[b"220 ", banner])?;
+    add_printed(sent, text.as_slice())?;
+    sent.extend(b"\r\n")
 }

@@ -1,16 +1,14 @@
 //! The session, as the layer above drives it.
-ghost use Rattle.std.specs.Prelude.{◌≡◌, true, IfOk, OnOk, OnErr};
-ghost use Rattle.std.specs.Io.KnownBytes.{append_known};
-ghost use Rattle.pf_base.specs.Causes.{HasOuterCause};
-ghost use Rattle.pf_base.specs.Told.{HoldsFront, Writes};
-ghost use Rattle.pf_smtp.specs.Feeding.{HasSessionCause, Took, TookFront, faults, fresh, going_of, told};
-ghost use Rattle.pf_smtp.specs.Gathering.{Wrote, WroteFront};
+ghost use Rattle.std.specs.Prelude.{◌≡◌, true, false, IfErr, IfOk, OnErr, OnOk};
+ghost use Rattle.pf_base.specs.Objects.{Says, StopsBy, out_text, sinks};
+ghost use Rattle.pf_base.specs.Told.{Output};
+ghost use Rattle.pf_smtp.specs.Feeding.{Took, fresh, going_of, texts_given};
 ghost use Rattle.pf_smtp.specs.Text.{greeting_of};
 
 use crate::reply::print_greeting;
-use crate::standing::{Gathered, LineBuffer, Standing};
+use crate::standing::{LineBuffer, Standing};
 use crate::state::{Setup, State};
-use pf_base::{Bytes, NoMemory, OuterFault, Sink};
+use pf_base::{Bytes, Sink, SinkFault, Texts, write_out, write_texts};
 use pf_eval::PlainPolicy;
 use std::alloc::Global;
 use std::marker::Model;
@@ -24,62 +22,6 @@ pub enum Going {
     Over,
 }
 
-/// Why a session could not go on. A sink's fault comes only where its count rose.
-#[derive(Clone, Copy, Debug, PartialEq, Eq)]
-pub enum SessionFault {
-    /// The replies were not written whole.
-    Out,
-    /// The record lines were not written whole.
-    Mail,
-    /// The log lines were not written whole.
-    Log,
-    /// Memory was wanting.
-    NoMemory,
-}
-
-// Writes a text, unless there is none.
-fn write_text<S: Sink>(sink: &mut S, text: &[u8]) -> Result<(), OuterFault>
-    ensures bytes { Writes (S.written sink.old) (S.written sink.new) result text.now }
-    ensures cause { HasOuterCause (S.faults sink.old) (S.faults sink.new) result }
-{
-    if text.is_empty() {
-        return Ok(());
-    }
-    sink.write(text)
-}
-
-// Writes what was gathered for a piece: the record before the log and that before the replies, so that what a client hears
-// is in both.
-fn write_gathered<O: Sink, M: Sink, J: Sink>(
-    gathered: &Gathered,
-    out: &mut O,
-    mail: &mut M,
-    log: &mut J,
-) -> Result<(), SessionFault>
-    ensures wrote { OnOk result (Wrote (told (O.written out.old) (M.written mail.old) (J.written log.old))
-        (told (O.written out.new) (M.written mail.new) (J.written log.new)) gathered.now) }
-    ensures front { OnErr result (WroteFront (told (O.written out.old) (M.written mail.old) (J.written log.old))
-        (told (O.written out.new) (M.written mail.new) (J.written log.new)) gathered.now) }
-    ensures cause { HasSessionCause (faults (O.faults out.old) (M.faults mail.old) (J.faults log.old))
-        (faults (O.faults out.new) (M.faults mail.new) (J.faults log.new)) result }
-{
-    match write_text(mail, gathered.mail.as_slice()) {
-        Ok(()) => {}
-        Err(OuterFault::Failed) => return Err(SessionFault::Mail),
-        Err(OuterFault::NoMemory) => return Err(SessionFault::NoMemory),
-    }
-    match write_text(log, gathered.log.as_slice()) {
-        Ok(()) => {}
-        Err(OuterFault::Failed) => return Err(SessionFault::Log),
-        Err(OuterFault::NoMemory) => return Err(SessionFault::NoMemory),
-    }
-    match write_text(out, gathered.out.as_slice()) {
-        Ok(()) => Ok(()),
-        Err(OuterFault::Failed) => Err(SessionFault::Out),
-        Err(OuterFault::NoMemory) => Err(SessionFault::NoMemory),
-    }
-}
-
 impl Standing {
     // Answers a piece.
     fn answer<O: Sink, M: Sink, J: Sink>(
@@ -89,59 +31,49 @@ impl Standing {
         out: &mut O,
         mail: &mut M,
         log: &mut J,
-    ) -> Result<(), SessionFault>
-        ensures took { OnOk result (Took (told (O.written out.old) (M.written mail.old) (J.written log.old))
-            (told (O.written out.new) (M.written mail.new) (J.written log.new)) self.old self.new piece.now) }
-        ensures front { OnErr result (TookFront (told (O.written out.old) (M.written mail.old) (J.written log.old))
-            (told (O.written out.new) (M.written mail.new) (J.written log.new)) self.old piece.now) }
-        ensures cause { HasSessionCause (faults (O.faults out.old) (M.faults mail.old) (J.faults log.old))
-            (faults (O.faults out.new) (M.faults mail.new) (J.faults log.new)) result }
+    ) -> Result<(), SinkFault>
+        ensures took { OnOk result (Took (sinks (O.told out.old) (M.told mail.old) (J.told log.old))
+            (sinks (O.told out.new) (M.told mail.new) (J.told log.new)) self.old self.new piece.now) }
+        ensures stops { IfErr result (λ fault. StopsBy fault (sinks (O.told out.old) (M.told mail.old) (J.told log.old))
+            (sinks (O.told out.new) (M.told mail.new) (J.told log.new)) (texts_given self.old piece.now)) }
     {
-        let mut gathered = Gathered {
-            out: Bytes::new(alloc),
-            mail: Bytes::new(alloc),
-            log: Bytes::new(alloc),
+        let mut texts = Texts::new(alloc);
+        let Ok(()) = self.take_piece(alloc, piece, &mut texts) else {
+            return Err(SinkFault::NoMemory);
         };
-        let Ok(()) = self.take_piece(alloc, piece, &mut gathered) else {
-            return Err(SessionFault::NoMemory);
-        };
-        write_gathered(&gathered, out, mail, log)
+        write_texts(&texts, out, mail, log)
     }
 
-    fn greet<O: Sink>(&self, alloc: Global, out: &mut O) -> Result<(), SessionFault>
-        ensures out { OnOk result (O.written out.new ≡ append_known (O.written out.old) (greeting_of self.now.setup.banner)) }
-        ensures front { OnErr result (HoldsFront (O.written out.old) (O.written out.new) (greeting_of self.now.setup.banner)) }
-        ensures cause { HasSessionCause (faults (O.faults out.old) 0 0) (faults (O.faults out.new) 0 0) result }
+    fn greet<O: Sink>(&self, alloc: Global, out: &mut O) -> Result<(), SinkFault>
+        ensures { (mail log : Output) → Says (sinks (O.told out.old) mail log) (sinks (O.told out.new) mail log)
+            (out_text (greeting_of self.now.setup.banner)) result }
     {
         let mut text = Bytes::new(alloc);
-        let Ok(()) = print_greeting(self.setup.banner.as_slice(), &mut text) else {
-            return Err(SessionFault::NoMemory);
+        let Ok(()) = print_greeting(alloc, self.setup.banner.as_slice(), &mut text) else {
+            return Err(SinkFault::NoMemory);
         };
-        match out.write(text.as_slice()) {
-            Ok(()) => Ok(()),
-            Err(OuterFault::Failed) => Err(SessionFault::Out),
-            Err(OuterFault::NoMemory) => Err(SessionFault::NoMemory),
-        }
+        write_out(out, text.as_slice())
     }
 }
 
 /// A session with one client.
 #[derive(Debug, Drop)]
 pub struct Session {
+    begun: bool,
     standing: Standing,
 }
 
 impl Model for Session {
-    ghost use Rattle.pf_smtp.specs.declared.standing.Standing.{Standing};
+    ghost use Rattle.pf_smtp.specs.Feeding.{Progress};
 
-    ghost Value = { Standing };
+    ghost Value = { Progress };
 
-    ghost view = { λ session. session.standing };
+    ghost view = { λ session. record { begun = session.begun; standing = session.standing } };
 }
 
 impl Session {
     /// A session of the server of this name and this banner with the client of this IPv4 address, whose first number is its
-    /// highest byte. The banner is sent as it stands, so the caller sees to it that it has no line end. It takes no memory.
+    /// highest byte. It takes no memory.
     pub fn new(
         alloc: Global,
         host: Bytes,
@@ -149,9 +81,10 @@ impl Session {
         policy: PlainPolicy,
         client: u32,
     ) -> Session
-        ensures { result ≡ fresh (record { host = host; banner = banner; policy = policy; client = client }) }
+        ensures { result ≡ record { begun = false; standing = fresh (record { host = host; banner = banner; policy = policy; client = client }) } }
     {
         Session {
+            begun: false,
             standing: Standing {
                 setup: Setup {
                     host,
@@ -171,14 +104,15 @@ impl Session {
 
     /// Says the greeting, which is the banner behind its code (postconf(5), smtpd_banner; RFC 5321, 4.2), once and first. After
     /// a fault a front of it was written, and the session is over.
-    pub fn greet<O: Sink>(&mut self, alloc: Global, out: &mut O) -> Result<(), SessionFault>
-        requires { self.old ≡ fresh self.old.setup }
-        ensures out { OnOk result (O.written out.new ≡ append_known (O.written out.old) (greeting_of self.old.setup.banner)) }
-        ensures front { OnErr result (HoldsFront (O.written out.old) (O.written out.new) (greeting_of self.old.setup.banner)) }
-        ensures same { OnOk result (self.new ≡ self.old) }
-        ensures over { OnErr result (self.new.state.over ≡ true) }
-        ensures cause { HasSessionCause (faults (O.faults out.old) 0 0) (faults (O.faults out.new) 0 0) result }
+    pub fn greet<O: Sink>(&mut self, alloc: Global, out: &mut O) -> Result<(), SinkFault>
+        requires { self.old.begun ≡ false }
+        ensures says { (mail log : Output) → Says (sinks (O.told out.old) mail log) (sinks (O.told out.new) mail log)
+            (out_text (greeting_of self.old.standing.setup.banner)) result }
+        ensures begun { self.new.begun ≡ true }
+        ensures same { OnOk result (self.new.standing ≡ self.old.standing) }
+        ensures over { OnErr result (self.new.standing.state.over ≡ true) }
     {
+        self.begun = true;
         match self.standing.greet(alloc, out) {
             Ok(()) => Ok(()),
             Err(fault) => {
@@ -188,9 +122,10 @@ impl Session {
         }
     }
 
-    /// Takes the next piece of the input, of any size, and answers the lines that end in it: the record lines first, then the
-    /// log lines, then the replies, each in one write. After a fault each sink holds a front of them. Once the session is
-    /// over, and so after a fault, it writes nothing and answers `Over`. No verb of today gives a record line.
+    /// Takes the next piece of the input, of any size, behind the greeting, and answers the lines that end in it: the record lines
+    /// first, then the log lines, then the replies, each in one write. After a fault a front of them was written, nothing to a sink
+    /// behind the one that failed, and the session is over. Once it is over, it writes nothing and answers `Over`. No verb of today
+    /// gives a record line.
     pub fn feed<O: Sink, M: Sink, J: Sink>(
         &mut self,
         alloc: Global,
@@ -198,16 +133,15 @@ impl Session {
         out: &mut O,
         mail: &mut M,
         log: &mut J,
-    ) -> Result<Going, SessionFault>
-        ensures took { OnOk result (Took (told (O.written out.old) (M.written mail.old) (J.written log.old))
-            (told (O.written out.new) (M.written mail.new) (J.written log.new)) self.old self.new piece.now) }
-        ensures front { OnErr result (TookFront (told (O.written out.old) (M.written mail.old) (J.written log.old))
-            (told (O.written out.new) (M.written mail.new) (J.written log.new)) self.old piece.now) }
-        ensures mail { M.written mail.new ≡ M.written mail.old }
-        ensures going { IfOk result (λ going. going ≡ going_of self.new.state) }
-        ensures over { OnErr result (self.new.state.over ≡ true) }
-        ensures cause { HasSessionCause (faults (O.faults out.old) (M.faults mail.old) (J.faults log.old))
-            (faults (O.faults out.new) (M.faults mail.new) (J.faults log.new)) result }
+    ) -> Result<Going, SinkFault>
+        requires { self.old.begun ≡ true }
+        ensures took { OnOk result (Took (sinks (O.told out.old) (M.told mail.old) (J.told log.old))
+            (sinks (O.told out.new) (M.told mail.new) (J.told log.new)) self.old.standing self.new.standing piece.now) }
+        ensures stops { IfErr result (λ fault. StopsBy fault (sinks (O.told out.old) (M.told mail.old) (J.told log.old))
+            (sinks (O.told out.new) (M.told mail.new) (J.told log.new)) (texts_given self.old.standing piece.now)) }
+        ensures begun { self.new.begun ≡ true }
+        ensures going { IfOk result (λ going. going ≡ going_of self.new.standing.state) }
+        ensures over { OnErr result (self.new.standing.state.over ≡ true) }
     {
         match self.standing.answer(alloc, piece, out, mail, log) {
             Ok(()) => {

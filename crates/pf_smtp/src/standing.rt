@@ -8,7 +8,7 @@ use crate::machine::LINE_LIMIT;
 use crate::record_line::RecordLine;
 use crate::reply::Reply;
 use crate::state::{Answer, Setup, State};
-use pf_base::{Bytes, NoMemory, first_line};
+use pf_base::{Bytes, NoMemory, Texts, first_line};
 use std::alloc::Global;
 use std::marker::Model;
 
@@ -71,19 +71,16 @@ pub struct Standing {
     pub part: LineBuffer,
 }
 
-// The texts of a piece's replies, record lines and log lines.
-#[derive(Debug, Drop)]
-pub(crate) struct Gathered {
-    pub(crate) out: Bytes,
-    pub(crate) mail: Bytes,
-    pub(crate) log: Bytes,
-}
-
-fn add_replies(out: &mut Bytes, host: &[u8], replies: &[Reply]) -> Result<(), NoMemory>
+fn add_replies(
+    alloc: Global,
+    out: &mut Bytes,
+    host: &[u8],
+    replies: &[Reply],
+) -> Result<(), NoMemory>
     ensures { OnOk result (out.new ≡ out.old ++ flat_map (text_of host.now) replies.now) }
 {
     for reply in replies {
-        reply.print(host, out)?;
+        reply.print(alloc, host, out)?;
     }
     Ok(())
 }
@@ -106,17 +103,20 @@ fn add_entries(alloc: Global, log: &mut Bytes, entries: &[Entry]) -> Result<(), 
     Ok(())
 }
 
-impl Gathered {
-    fn add(&mut self, alloc: Global, host: &[u8], answer: &Answer) -> Result<(), NoMemory>
-        ensures out { OnOk result (self.new.out ≡ self.old.out ++ flat_map (text_of host.now) answer.now.replies) }
-        ensures mail { OnOk result (self.new.mail ≡ self.old.mail ++ flat_map record_text answer.now.records) }
-        ensures log { OnOk result (self.new.log ≡ self.old.log ++ flat_map log_line answer.now.entries) }
-    {
-        add_replies(&mut self.out, host, answer.replies.as_slice())?;
-        add_records(&mut self.mail, answer.records.as_slice())?;
-        add_entries(alloc, &mut self.log, answer.entries.as_slice())?;
-        Ok(())
-    }
+fn add_answer(
+    alloc: Global,
+    host: &[u8],
+    answer: &Answer,
+    texts: &mut Texts,
+) -> Result<(), NoMemory>
+    ensures out { OnOk result (texts.new.out ≡ texts.old.out ++ flat_map (text_of host.now) answer.now.replies) }
+    ensures mail { OnOk result (texts.new.mail ≡ texts.old.mail ++ flat_map record_text answer.now.records) }
+    ensures log { OnOk result (texts.new.log ≡ texts.old.log ++ flat_map log_line answer.now.entries) }
+{
+    add_replies(alloc, &mut texts.out, host, answer.replies.as_slice())?;
+    add_records(&mut texts.mail, answer.records.as_slice())?;
+    add_entries(alloc, &mut texts.log, answer.entries.as_slice())?;
+    Ok(())
 }
 
 impl Standing {
@@ -127,14 +127,14 @@ impl Standing {
         &mut self,
         alloc: Global,
         line: &[u8],
-        gathered: &mut Gathered,
+        texts: &mut Texts,
     ) -> Result<(), NoMemory>
-        ensures { OnOk result (AnswersLine gathered.old gathered.new self.old self.new line.now) }
+        ensures { OnOk result (AnswersLine texts.old texts.new self.old self.new line.now) }
     {
         self.part.keep(line)?;
         let answer = self.state.step(alloc, &self.setup, self.part.as_slice())?;
         self.part.clear();
-        gathered.add(alloc, self.setup.host.as_slice(), &answer)?;
+        add_answer(alloc, self.setup.host.as_slice(), &answer, texts)?;
         Ok(())
     }
 
@@ -143,9 +143,9 @@ impl Standing {
         &mut self,
         alloc: Global,
         piece: &[u8],
-        gathered: &mut Gathered,
+        texts: &mut Texts,
     ) -> Result<(), NoMemory>
-        ensures { OnOk result (AnswersPiece gathered.old gathered.new self.old self.new piece.now) }
+        ensures { OnOk result (AnswersPiece texts.old texts.new self.old self.new piece.now) }
     {
         let mut left = piece;
         'lines: while !self.state.over {
@@ -155,7 +155,7 @@ impl Standing {
                     return Ok(());
                 }
                 Some((line, behind)) => {
-                    self.take_line(alloc, line, gathered)?;
+                    self.take_line(alloc, line, texts)?;
                     left = behind;
                 }
             }

@@ -1,8 +1,8 @@
-use Rattle.pf_smtp.specs.Text.{denied_line}
+use Rattle.pf_smtp.specs.Text.{denied_text}
 use Rattle.pf_smtp.proofs.entry.print_denied.Goals as goal
 
 pub returns : goal.returns
-unfolding denied_line
+unfolding denied_text
 returns c =
     let line = c.as_bytes.ensures.value in
     let number = c.in_ok-line.ensures in

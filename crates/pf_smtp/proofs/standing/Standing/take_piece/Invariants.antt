@@ -3,7 +3,7 @@ use Rattle.pf_smtp.specs.Gathering.{ComesDownTo}
 use Rattle.pf_smtp.proofs.standing.Standing.take_piece.Given as goal
 
 abbrev pub invariant-lines : goal.invariant-lines
-invariant-lines l = ComesDownTo l.initial.gathered l.gathered l.initial.self l.self l.piece l.left
+invariant-lines l = ComesDownTo l.initial.texts l.texts l.initial.self l.self l.piece l.left
 
 abbrev pub decreases-lines : goal.decreases-lines
 decreases-lines l = length l.left
