@@ -49,7 +49,7 @@ texts-before setup a b = rw (replies_text-before setup a b, records_text-before 
 joined_none : (t : Texts) (setup : Setup) (state : State) → joined t (texts_of setup (stays state)) ≡ t
 joined_none t setup state = rw (append-nil t.out, append-nil t.mail, append-nil t.log) refl
 
-joined_assoc : (a b c : Texts) → joined (joined a b) c ≡ joined a (joined b c)
+pub joined_assoc : (a b c : Texts) → joined (joined a b) c ≡ joined a (joined b c)
 joined_assoc a b c = rw (append_assoc a.out b.out c.out, append_assoc a.mail b.mail c.mail, append_assoc a.log b.log c.log) refl
 
 pub same_texts : {a b : Texts} → a.out ≡ b.out → a.mail ≡ b.mail → a.log ≡ b.log → a ≡ b

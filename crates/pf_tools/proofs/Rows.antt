@@ -2,6 +2,7 @@
 use Rattle.std.proofs.Common.{◌≡◌, ℕ, ◌++◌, true, false, List, [], ◌∷◌, map, length, Option, None, Some, Ok, Err, refl, codes}
 use Rattle.std.specs.Fmt.{digits}
 use Rattle.std.specs.Str.{chars, is_utf8}
+use Rattle.pf_base.specs.Printing.{printed_line}
 use Rattle.pf_base.specs.Refusal.{cause_text, refusal_line}
 use Rattle.pf_base.specs.Words.{words_of}
 use Rattle.pf_base.specs.declared.pair.Pair.{Pair}
@@ -18,12 +19,12 @@ use Rattle.pf_expand.specs.Names.{name_value}
 use Rattle.pf_params.specs.Parameters.{reading_of}
 use Rattle.pf_params.specs.Settled.{Settled}
 use Rattle.pf_tools.specs.Asked.{asked_names, is_known, is_shown, shown_names}
-use Rattle.pf_tools.specs.Course.{Course, bytes_in, conf_name, log_of, output_of, status_of}
+use Rattle.pf_tools.specs.Course.{Course, bytes_in, conf_name, course_status, log_of, output_of}
 use Rattle.pf_tools.specs.Course.{Course as course}
 use Rattle.pf_tools.specs.Order.{in_order}
 use Rattle.pf_tools.specs.Printed.{line_text, lines_of}
 use Rattle.pf_tools.specs.Said.{edited_by, file_said, printed, printed_of}
-use Rattle.pf_tools.specs.Values.{value_shown}
+use Rattle.pf_tools.specs.Values.{line_in, value_shown}
 use Rattle.pf_tools.specs.declared.said.Said.TheVariants.{Edited, Printed}
 use Rattle.pf_words.specs.Sets.{setting_of_word, settings_of_words}
 use Rattle.pf_words.specs.declared.postconf.ConfMode.TheVariants as mode
@@ -104,6 +105,9 @@ first_that_is_refused : map (λ x. lines_of (record words { expanded = x }) flaw
 unfolding catalogue name_value text_value parts first_part form_of
 first_that_is_refused = refl
 
+lines_of_refusals : map (λ m. line_in m flawed (codes "a")) (mode.All ∷ mode.Set ∷ mode.Defaults ∷ []) ≡ 2 ∷ 2 ∷ 0 ∷ []
+lines_of_refusals = refl
+
 names_alone : lines_of (record words { expanded = true; shape = shape.Names }) flawed (codes "b" ∷ codes "a" ∷ []) ≡ Ok (codes "b\na\n")
 unfolding catalogue
 names_alone = refl
@@ -111,7 +115,7 @@ names_alone = refl
 -- what is printed: a name that is not known has a warning, and one that the mode leaves out has nothing
 unknown_name : printed_of words site (codes "nosuch" ∷ codes "town" ∷ codes "relay_domains" ∷ [])
     ≡ Ok (Printed (codes "town = There\nrelay_domains =\n") (codes "postgate: warning: nosuch: unknown parameter\n"))
-unfolding catalogue name_value text_value parts first_part form_of
+unfolding catalogue name_value text_value parts first_part form_of printed_line
 unknown_name = refl
 
 names_left_out : map (λ m. printed_of (record words { mode = m }) site (codes "town" ∷ codes "myorigin" ∷ [])) (mode.Set ∷ mode.Defaults ∷ [])
@@ -154,15 +158,15 @@ bytes_of_files = refl
 -- what a course writes, and its status
 abbrev courses : List Course
 courses = course.prints (codes "a = 1\n") [] ∷ course.prints [] (codes "w\n") ∷ course.edits (codes "a = 1\n")
-    ∷ course.refuses (record { file = file; line = 2; cause = C2; name = [] }) ∷ course.unread ∷ course.unreplaced (codes "a = 1\n") ∷ []
+    ∷ course.refuses (record { file = file; line = 2; cause = C2; name = [] }) ∷ course.unread ∷ course.unreplaced (codes "a = 1\n") ∷ course.starves ∷ course.starves_editing (codes "a = 1\n") ∷ []
 
-statuses : map status_of courses ≡ 0 ∷ 1 ∷ 0 ∷ 3 ∷ 8 ∷ 8 ∷ []
+statuses : map course_status courses ≡ 0 ∷ 1 ∷ 0 ∷ 3 ∷ 8 ∷ 8 ∷ 9 ∷ 9 ∷ []
 statuses = refl
 
-outputs : map output_of courses ≡ codes "a = 1\n" ∷ [] ∷ [] ∷ [] ∷ [] ∷ [] ∷ []
+outputs : map output_of courses ≡ codes "a = 1\n" ∷ [] ∷ [] ∷ [] ∷ [] ∷ [] ∷ [] ∷ [] ∷ []
 outputs = refl
 
 logs : map (log_of file) courses ≡ [] ∷ codes "w\n" ∷ [] ∷ codes "postgate: main.cf:2: C2 no equals sign\n"
-    ∷ codes "postgate: main.cf: read failed\n" ∷ codes "postgate: main.cf: replace failed\n" ∷ []
-unfolding refusal_line cause_text digits
+    ∷ codes "postgate: main.cf: read failed\n" ∷ codes "postgate: main.cf: replace failed\n" ∷ [] ∷ [] ∷ []
+unfolding refusal_line printed_line cause_text digits
 logs = refl

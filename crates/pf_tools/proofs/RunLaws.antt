@@ -1,54 +1,64 @@
 -- A run by what was gathered and written.
-use Rattle.std.proofs.Common.{◌≡◌, ℕ, false, List, [], Option, Result, Ok, Err, inr, refl, ap, subst, ◌∙◌}
-use Rattle.std.specs.Io.KnownBytes.{append_known}
-use Rattle.pf_base.specs.Told.{HoldsFront}
-use Rattle.pf_base.specs.declared.pair.Pair.{Pair}
-use Rattle.pf_base.specs.declared.refused.ConfFault.{ConfFault}
-use Rattle.pf_base.specs.declared.refused.ConfFault.TheVariants as fault
-use Rattle.pf_tools.specs.Course.{Course, conf_name, ending_status, is_done, log_of, output_of}
+use Rattle.std.proofs.Common.{◌≡◌, ℕ, true, false, [], Result, Err, refl, sym, ap, subst, ◌∙◌}
+use Rattle.std.specs.Prelude.{IsOk, ⊤}
+use Rattle.std.proofs.lemmas.Bool.{false≢true}
+use Rattle.pf_base.proofs.ToldLemmas.{stops_first}
+use Rattle.pf_base.specs.Objects.{Says, objects, sinks, status_of}
+use Rattle.pf_base.specs.Told.{Input, Output, Tree}
+use Rattle.pf_base.specs.declared.texts.SinkFault.{SinkFault}
+use Rattle.pf_base.specs.declared.texts.SinkFault.TheVariants as fault
+use Rattle.pf_tools.specs.Course.{Course, Unfinished, conf_name, course_status, is_done, log_of, output_of, texts_of}
 use Rattle.pf_tools.specs.Course.{Course as course}
 use Rattle.pf_tools.specs.Reports.{Reports}
-use Rattle.pf_tools.specs.Run.{Completes, CutOff, RunsThrough, world}
+use Rattle.pf_tools.specs.Run.{PostconfRun}
 use Rattle.pf_tools.specs.declared.report.Report.{Report}
-use Rattle.pf_tools.specs.declared.said.Said.{Said}
-use Rattle.pf_tools.specs.declared.said.Said.TheVariants as said
+use Rattle.pf_words.specs.Postconf.{is_edit}
 use Rattle.pf_words.specs.declared.postconf.ConfWords.{ConfWords}
 
-module _ (words : ConfWords) (before now : Option (List Pair)) (report : Report) (reports : Reports words before now report) where
-  output_is : report.output ≡ output_of reports.courses.course
-  output_is = ap (λ (r : Report). r.output) reports.report_is
+-- an edit that is done says nothing
+quiet : (file : _) (c : Course) → is_done c ≡ true → (output_of c ≡ []) × (log_of file c ≡ [])
+quiet file (course.edits text) done = (refl, refl)
+quiet file (course.prints lines warnings) done = cc
+quiet file (course.refuses refusal) done = cc
+quiet file course.unread done = cc
+quiet file (course.unreplaced text) done = cc
+quiet file course.starves done = cc
+quiet file (course.starves_editing text) done = cc
 
-  log_is : report.log ≡ log_of (conf_name words.folder) reports.courses.course
-  log_is = ap (λ (r : Report). r.log) reports.report_is
+module _ (words : ConfWords) (before now : Tree) (input : Input) (mail out log : Output) where
+  -- what was gathered was written, or that was broken off
+  pub runs : (out_now log_now : Output) (report : Report) (reports : Reports words before now report) (said : Result ⊤ SinkFault) (status : ℕ) → status ≡ status_of report.status said
+      → Says (sinks out mail log) (sinks out_now mail log_now) report.texts said
+      → (report.texts.out ≡ [] → out_now ≡ out) → (report.texts.out ≡ [] → report.texts.log ≡ [] → IsOk said)
+      → (is_edit words.mode ≡ true → report.texts.out ≡ []) → (is_edit words.mode ≡ false → now.content ≡ before.content)
+      → PostconfRun words (objects input out mail log before) (objects input out_now mail log_now now) status
+  runs out_now log_now report reports said status status_is says no_output nothing edit same =
+      let texts = ap (λ (r : Report). r.texts) reports.report_is in
+      let out_is = ap (λ (t : Report). t.texts.out) reports.report_is in
+      let log_is = ap (λ (t : Report). t.texts.log) reports.report_is in
+      record {
+        courses = reports.courses;
+        said = said;
+        says = subst (λ t. Says (sinks out mail log) (sinks out_now mail log_now) t said) texts says;
+        status_is = status_is ∙ ap (λ (r : Report). status_of r.status said) reports.report_is;
+        through = λ done. let none = quiet (conf_name words.folder) reports.courses.course done in nothing (out_is ∙ none.0) (log_is ∙ none.1);
+        silent = λ none. no_output (out_is ∙ none);
+        edit = λ is. no_output (edit is);
+        kept = same;
+        rest = (refl, refl);
+      }
 
-  -- all of it was written
-  pub runs_through : (out out_now log log_now : Option (List ℕ)) (status : ℕ) → status ≡ ending_status report.ending → out_now ≡ append_known out report.output
-      → log_now ≡ append_known log report.log → RunsThrough words (world out log before) (world out_now log_now now) status
-  runs_through out out_now log log_now status ended out_is log_told = record {
-    courses = reports.courses;
-    status_is = ended ∙ ap (λ (r : Report). ending_status r.ending) reports.report_is;
-    out = out_is ∙ ap (append_known out) output_is;
-    log = log_told ∙ ap (append_known log) log_is;
+  -- memory was wanting before there was anything to write
+  pub runs_short : Unfinished words before now → (is_edit words.mode ≡ false → now.content ≡ before.content)
+      → PostconfRun words (objects input out mail log before) (objects input out mail log now) 9
+  runs_short left same = record {
+    courses = left.courses;
+    said = Err fault.NoMemory;
+    says = stops_first (sinks out mail log) (texts_of (conf_name words.folder) left.courses.course);
+    status_is = refl;
+    through = λ done. absurd (false≢true (sym left.undone ∙ done));
+    silent = λ none. refl;
+    edit = λ is. refl;
+    kept = same;
+    rest = (refl, refl);
   }
-
-  -- a front of it was, which is less where there is something to write
-  pub runs_short : (out out_now log log_now : Option (List ℕ)) → HoldsFront out out_now report.output → HoldsFront log log_now report.log
-      → (report.output ≡ [] → report.log ≡ [] → ⊥) → CutOff words (world out log before) (world out_now log_now now)
-  runs_short out out_now log log_now out_front log_front some = record {
-    left = record { courses = reports.courses; undone = by_course reports.courses.course output_is log_is };
-    out = subst (HoldsFront out out_now) output_is out_front;
-    log = subst (HoldsFront log log_now) log_is log_front;
-  } where
-    by_course : (c : Course) → report.output ≡ output_of c → report.log ≡ log_of (conf_name words.folder) c → is_done c ≡ false
-    by_course (course.edits text) output log = absurd (some output log)
-    by_course (course.prints lines warnings) output log = refl
-    by_course (course.refuses refusal) output log = refl
-    by_course course.unread output log = refl
-    by_course (course.unreplaced text) output log = refl
-
--- memory may be wanting whatever is said
-pub wanting_completes : (answer : Result Said ConfFault) → Completes answer 9
-wanting_completes (Ok (said.Printed lines warnings)) = inr refl
-wanting_completes (Ok (said.Edited text)) = inr refl
-wanting_completes (Err (fault.Refused refusal)) = inr refl
-wanting_completes (Err fault.NoMemory) = refl

@@ -1,6 +1,7 @@
 -- What postconf prints and what it warns of (postconf(1)). How a warning is printed is postgate's own.
 use Rattle.std.specs.Prelude.{ℕ, ◌++◌, List, [], ◌∷◌, Result, Ok, Err, codes, if◌then◌else◌}
 use Rattle.std.specs.List.{flat_map}
+use Rattle.pf_base.specs.Printing.{printed_line}
 use Rattle.pf_base.specs.declared.refused.ConfFault.{ConfFault}
 use Rattle.pf_params.specs.Settled.{Settled}
 use Rattle.pf_tools.specs.Asked.{is_known, is_shown}
@@ -45,7 +46,7 @@ lines_of words s (name ∷ names) = do
 
 -- the warning of a name that is not known
 abbrev pub warning_of : Settled → List ℕ → List ℕ
-warning_of s name = if is_known s name then [] else codes "postgate: warning: " ++ name ++ codes ": unknown parameter\n"
+warning_of s name = if is_known s name then [] else printed_line (codes "postgate: warning: " ++ name ++ codes ": unknown parameter")
 
 -- the warnings of names
 abbrev pub warnings_of : Settled → List (List ℕ) → List ℕ

@@ -1,33 +1,32 @@
 -- What the code gathers before it writes. Words of the code's contracts.
-use Rattle.std.specs.Prelude.{◌≡◌, ◌⊎◌, ℕ, List, Option, Result, Ok, Err}
-use Rattle.pf_base.specs.declared.pair.Pair.{Pair}
+use Rattle.std.specs.Prelude.{◌≡◌, ◌⊎◌, ℕ, List, Result, Ok, Err}
+use Rattle.pf_base.specs.Told.{Tree}
 use Rattle.pf_base.specs.declared.refused.ConfFault.{ConfFault}
 use Rattle.pf_base.specs.declared.refused.ConfFault.TheVariants as conf
-use Rattle.pf_tools.specs.Course.{Course, Courses, Leaves, conf_name, ending_of, log_of, output_of}
+use Rattle.pf_tools.specs.Course.{Course, Courses, Leaves, conf_name, course_status, texts_of}
 use Rattle.pf_tools.specs.Course.{Course as course}
 use Rattle.pf_tools.specs.declared.file.FileFault.{FileFault}
 use Rattle.pf_tools.specs.declared.file.FileFault.TheVariants as file_fault
 use Rattle.pf_tools.specs.declared.report.Report.{Report}
-use Rattle.pf_tools.specs.declared.said.Said.{Said}
 use Rattle.pf_words.specs.declared.postconf.ConfWords.{ConfWords}
 
--- an answer of the code is what is said; of a fault of the files and of want of memory nothing is asked
-abbrev pub Answers : Result Said ConfFault → Result Said FileFault → Type 0
+-- an answer of the code is what is said; a failed call on the files and want of memory are free
+abbrev pub Answers : {A : Type 0} → Result A ConfFault → Result A FileFault → Type 0
 Answers answer (Ok said) = answer ≡ Ok said
 Answers answer (Err (file_fault.Refused refusal)) = answer ≡ Err (conf.Refused refusal)
 Answers answer (Err other) = Unit {0}
 
 -- what is to be written in a course
 abbrev pub report_of : List ℕ → Course → Report
-report_of file course = record { output = output_of course; log = log_of file course; ending = ending_of course }
+report_of file course = record { texts = texts_of file course; status = course_status course }
 
 -- a report is that of a course over the files
-pub record Reports (words : ConfWords) (before now : Option (List Pair)) (report : Report) : Type 0 where
+pub record Reports (words : ConfWords) (before now : Tree) (report : Report) : Type 0 where
   pub courses : Courses words before now
   pub report_is : report ≡ report_of (conf_name words.folder) courses.course
 
 -- a report is that of an edited text, which stands in the place of the file or could not be put there
-abbrev pub IsEditReport : List ℕ → List ℕ → Option (List Pair) → Option (List Pair) → Report → Type 0
+abbrev pub IsEditReport : List ℕ → List ℕ → Tree → Tree → Report → Type 0
 IsEditReport file text before now report =
     ((report ≡ report_of file (course.edits text)) × Leaves file (course.edits text) before now)
     ⊎ ((report ≡ report_of file (course.unreplaced text)) × Leaves file (course.unreplaced text) before now)

@@ -60,8 +60,13 @@ text_said file words text = if is_edit words.mode then edited_by file words text
 abbrev pub file_refused : List ℕ → Cause → ConfFault
 file_refused file cause = Refused (record { file = file; line = 0; cause = cause; name = file })
 
--- what is said of a main.cf of this name with these bytes, if it is there
+-- the text of a main.cf of this name with these bytes, if it is there
+abbrev pub conf_text : List ℕ → Option (List ℕ) → Result (List ℕ) ConfFault
+conf_text file None = Err (file_refused file C10)
+conf_text file (Some bytes) = if nat_lt file_limit (length bytes) then Err (file_refused file C15) else Ok bytes
+
+-- what is said of it
 abbrev pub file_said : List ℕ → ConfWords → Option (List ℕ) → Result Said ConfFault
-file_said file words None = Err (file_refused file C10)
-file_said file words (Some bytes) =
-    if nat_lt file_limit (length bytes) then Err (file_refused file C15) else text_said file words bytes
+file_said file words bytes = do
+  text ← conf_text file bytes
+  text_said file words text

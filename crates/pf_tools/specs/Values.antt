@@ -5,7 +5,7 @@ use Rattle.pf_base.specs.declared.refused.ConfFault.TheVariants.{Refused}
 use Rattle.pf_expand.specs.Expansion.{Answer}
 use Rattle.pf_expand.specs.Names.{Source, depth_limit, name_value, source_value}
 use Rattle.pf_expand.specs.Names.{Source as source}
-use Rattle.pf_params.specs.Parameters.{refusal_of}
+use Rattle.pf_params.specs.Parameters.{line_of, refusal_of}
 use Rattle.pf_params.specs.Presets.{preset_of}
 use Rattle.pf_params.specs.Settled.{Settled, cause_of, settled_source}
 use Rattle.pf_words.specs.declared.postconf.ConfMode.{ConfMode}
@@ -28,10 +28,15 @@ abbrev pub shown : Bool → Settled → Source → Answer
 shown expanded s (source.text bytes) = if expanded then value_in s (source.text bytes) else Ok bytes
 shown expanded s (source.domain name) = value_in s (source.domain name)
 
+-- the line of the setting that is shown of a name; a default stands in none
+abbrev pub line_in : ConfMode → Settled → List ℕ → ℕ
+line_in mode.Defaults s name = 0
+line_in mode s name = line_of s name
+
 -- a value of a name, or the refusal of its setting
-abbrev pub unless_flawed : Settled → List ℕ → Answer → Result (List ℕ) ConfFault
-unless_flawed s name (Ok value) = Ok value
-unless_flawed s name (Err flaw) = Err (Refused (refusal_of s name (cause_of flaw)))
+abbrev pub unless_flawed : ConfMode → Settled → List ℕ → Answer → Result (List ℕ) ConfFault
+unless_flawed mode s name (Ok value) = Ok value
+unless_flawed mode s name (Err flaw) = Err (Refused (record (refusal_of s name (cause_of flaw)) { line = line_in mode s name }))
 
 -- names alone are printed
 abbrev pub is_names : Shape → Bool
@@ -42,4 +47,4 @@ is_names other = false
 abbrev pub value_shown : ConfWords → Settled → List ℕ → Result (List ℕ) ConfFault
 value_shown words s name =
     if is_names words.shape then Ok []
-    else unless_flawed s name (shown words.expanded s (source_in words.mode s name))
+    else unless_flawed words.mode s name (shown words.expanded s (source_in words.mode s name))

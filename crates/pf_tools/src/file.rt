@@ -1,25 +1,25 @@
 //! main.cf as a file.
 ghost use Rattle.std.specs.Prelude.{◌≡◌, ◌≢◌, List as Seq, Some, Err, true, false, IfOk};
 ghost use Rattle.std.specs.Str.{IsUtf8};
-ghost use Rattle.pf_base.specs.Causes.{Rose};
+ghost use Rattle.pf_base.specs.Told.{failed_tree};
 ghost use Rattle.pf_base.specs.declared.pair.Pair.{Pair};
 ghost use Rattle.pf_tools.specs.Course as course;
-ghost use Rattle.pf_tools.specs.Course.{bytes_in};
+ghost use Rattle.pf_tools.specs.Course.{Kept, bytes_in};
 ghost use Rattle.pf_tools.specs.Reports.{Answers};
 ghost use Rattle.pf_tools.specs.Said as spec;
 ghost use Rattle.pf_words.specs.Postconf.{is_edit, sets_parameters};
 
 use crate::said::{Said, text_said};
-use pf_base::{Bytes, Cause, ConfFault, Files, NoMemory, ReadFault, Refused, read_all};
+use pf_base::{Bytes, Cause, ConfFault, Files, NoMemory, ReadFault, Refused, add_line, read_all};
 use pf_words::ConfWords;
 use std::alloc::Global;
 
-/// Why nothing is said of main.cf.
+/// Why main.cf is not accepted.
 #[derive(Debug, Drop)]
-pub(crate) enum FileFault {
+pub enum FileFault {
     /// It is refused.
     Refused(Refused),
-    /// The count of faults of the files rose.
+    /// A call on the files failed.
     Failed,
     /// Memory was wanting.
     NoMemory,
@@ -40,10 +40,21 @@ pub fn conf_name(alloc: Global, folder: &Option<Bytes>) -> Result<Bytes, NoMemor
     }
 }
 
+/// The line of a call on the file of this name that failed.
+pub fn failed_line(alloc: Global, file: &[u8], call: &[u8]) -> Result<Bytes, NoMemory>
+    ensures { IfOk result (λ line. line ≡ course.failed_line file.now call.now) }
+{
+    let mut text = Bytes::new(alloc);
+    text.extend_all(&[b"postgate: ", file, b": ", call, b" failed"])?;
+    let mut line = Bytes::new(alloc);
+    add_line(&mut line, text.as_slice())?;
+    Ok(line)
+}
+
 // The refusal of a whole file.
-fn file_refused(alloc: Global, file: &[u8], cause: Cause) -> Result<Said, FileFault>
+fn file_refused(alloc: Global, file: &[u8], cause: Cause) -> Result<Bytes, FileFault>
     ensures said { Answers (Err (spec.file_refused file.now cause)) result }
-    ensures nothing { IfOk result (λ said. ⊥) }
+    ensures nothing { IfOk result (λ text. ⊥) }
     ensures files { result ≢ Err FileFault.Failed }
 {
     let Ok(name) = Bytes::from_slice(alloc, file) else {
@@ -74,7 +85,28 @@ fn read_said(alloc: Global, file: &[u8], words: &ConfWords, text: &[u8]) -> Resu
     }
 }
 
-/// What is said of the file of this name; `Failed` comes only where the count of faults of `files` rose.
+/// The text of the main.cf of this name; a name that is no UTF-8 is that of no file. `Failed` comes only where the count of faults of
+/// `files` rose by one.
+pub fn conf_text<F: Files>(alloc: Global, file: &[u8], files: &mut F) -> Result<Bytes, FileFault>
+    ensures told { (all : Seq Pair) → (F.told files.old).content ≡ Some all
+        → Answers (spec.conf_text file.now (bytes_in all file.now)) result }
+    ensures text { IfOk result (λ text. IsUtf8 file.now) }
+    ensures failed { result ≡ Err FileFault.Failed → Kept (failed_tree (F.told files.old)) (F.told files.new) }
+    ensures kept { result ≢ Err FileFault.Failed → Kept (F.told files.old) (F.told files.new) }
+{
+    let Ok(name) = str::from_utf8(file) else {
+        return file_refused(alloc, file, Cause::C10);
+    };
+    match read_all(alloc, files, name) {
+        Ok(None) => file_refused(alloc, file, Cause::C10),
+        Ok(Some(text)) => Ok(text),
+        Err(ReadFault::TooLarge) => file_refused(alloc, file, Cause::C15),
+        Err(ReadFault::Failed) => Err(FileFault::Failed),
+        Err(ReadFault::NoMemory) => Err(FileFault::NoMemory),
+    }
+}
+
+/// What is said of the main.cf of this name; `Failed` comes only where the count of faults of `files` rose by one.
 pub(crate) fn file_said<F: Files>(
     alloc: Global,
     file: &[u8],
@@ -82,22 +114,15 @@ pub(crate) fn file_said<F: Files>(
     files: &mut F,
 ) -> Result<Said, FileFault>
     requires { sets_parameters words.now ≡ true }
-    ensures told { (all : Seq Pair) → F.content files.old ≡ Some all
+    ensures told { (all : Seq Pair) → (F.told files.old).content ≡ Some all
         → Answers (spec.file_said file.now words.now (bytes_in all file.now)) result }
     ensures edited { IfOk result (λ said. spec.is_edited said ≡ is_edit words.now.mode) }
     ensures text { IfOk result (λ said. IsUtf8 file.now) }
-    ensures same { F.content files.new ≡ F.content files.old }
-    ensures failed { result ≡ Err FileFault.Failed → Rose (F.faults files.old) (F.faults files.new) }
-    ensures kept { result ≢ Err FileFault.Failed → F.faults files.new ≡ F.faults files.old }
+    ensures failed { result ≡ Err FileFault.Failed → Kept (failed_tree (F.told files.old)) (F.told files.new) }
+    ensures kept { result ≢ Err FileFault.Failed → Kept (F.told files.old) (F.told files.new) }
 {
-    let Ok(name) = str::from_utf8(file) else {
-        return file_refused(alloc, file, Cause::C10);
-    };
-    match read_all(alloc, files, name) {
-        Ok(None) => file_refused(alloc, file, Cause::C10),
-        Ok(Some(text)) => read_said(alloc, file, words, text.as_slice()),
-        Err(ReadFault::TooLarge) => file_refused(alloc, file, Cause::C15),
-        Err(ReadFault::Failed) => Err(FileFault::Failed),
-        Err(ReadFault::NoMemory) => Err(FileFault::NoMemory),
+    match conf_text(alloc, file, files) {
+        Ok(text) => read_said(alloc, file, words, text.as_slice()),
+        Err(fault) => Err(fault),
     }
 }

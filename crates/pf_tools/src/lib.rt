@@ -12,5 +12,5 @@ mod say;
 mod top;
 mod values;
 
-pub use file::conf_name;
+pub use file::{FileFault, conf_name, conf_text, failed_line};
 pub use top::postconf;

@@ -6,7 +6,7 @@ ghost use Rattle.pf_tools.specs.Printed as spec;
 use crate::all_settings::AllSettings;
 use crate::asked::{is_known, is_shown};
 use crate::values::value_shown;
-use pf_base::{Bytes, ConfFault, NoMemory};
+use pf_base::{Bytes, ConfFault, NoMemory, add_line};
 use pf_words::{ConfWords, Shape};
 use std::alloc::Global;
 
@@ -80,13 +80,20 @@ pub(crate) fn lines_of(
 }
 
 // Adds the warning of a name that is not known.
-fn add_warning(warnings: &mut Bytes, all: &AllSettings, name: &[u8]) -> Result<(), NoMemory>
+fn add_warning(
+    alloc: Global,
+    warnings: &mut Bytes,
+    all: &AllSettings,
+    name: &[u8],
+) -> Result<(), NoMemory>
     ensures { OnOk result (warnings.new ≡ warnings.old ++ spec.warning_of all.now name.now) }
 {
     if is_known(all, name) {
         return Ok(());
     }
-    warnings.extend_all(&[b"postgate: warning: ", name, b": unknown parameter\n"])
+    let mut text = Bytes::new(alloc);
+    text.extend_all(&[b"postgate: warning: ", name, b": unknown parameter"])?;
+    add_line(warnings, text.as_slice())
 }
 
 /// The warnings of names.
@@ -99,7 +106,7 @@ pub(crate) fn warnings_of(
 {
     let mut warnings = Bytes::new(alloc);
     for name in names {
-        add_warning(&mut warnings, all, name.as_slice())?;
+        add_warning(alloc, &mut warnings, all, name.as_slice())?;
     }
     Ok(warnings)
 }

@@ -1,83 +1,75 @@
 //! What a run does to the files, and what it is to write.
-ghost use Rattle.std.specs.Prelude.{◌≡◌, ◌≢◌, ◌⊎◌, [], false, true, codes, IfOk, OnErr};
+ghost use Rattle.std.specs.Prelude.{◌≡◌, ◌⊎◌, [], false, true, IfOk, OnErr};
 ghost use Rattle.std.specs.Str.{IsUtf8};
-ghost use Rattle.pf_base.specs.Causes.{Rose};
+ghost use Rattle.pf_base.specs.Objects.{log_text};
 ghost use Rattle.pf_base.specs.Refusal.{refusal_line};
+ghost use Rattle.pf_base.specs.declared.status.TheConstants.{FILES_FAILED, REFUSED};
 ghost use Rattle.pf_tools.specs.Course as spec;
-ghost use Rattle.pf_tools.specs.Course.{Unfinished, replaced};
+ghost use Rattle.pf_tools.specs.Course.{Course as course};
+ghost use Rattle.pf_tools.specs.Course.{Leaves, Unfinished};
 ghost use Rattle.pf_tools.specs.Reports.{IsEditReport, Reports};
 ghost use Rattle.pf_words.specs.Postconf.{is_edit, sets_parameters};
 
-use crate::file::{FileFault, conf_name, file_said};
+use crate::file::{FileFault, conf_name, failed_line, file_said};
 use crate::said::Said;
-use pf_base::{Bytes, Files, NoMemory, OuterFault, Refused};
+use pf_base::status::{DONE, FILES_FAILED, REFUSED, WARNED};
+use pf_base::{Bytes, Files, NoMemory, OuterFault, Refused, Texts};
 use pf_words::ConfWords;
 use std::alloc::Global;
 
-/// How a run ends that writes all that it has to say: done, done with a warning, with a refusal, or since a call on the
-/// files failed.
-#[derive(Clone, Copy, Debug, PartialEq, Eq)]
-pub(crate) enum Ending {
-    Done,
-    Warned,
-    Refused,
-    FilesFailed,
-}
-
-/// What is to be written to the output and to the log, and how the run ends then.
+/// What is to be written, and the status of the run then: done, done with a warning, refused, or since a call on the files failed.
 #[derive(Debug, Drop)]
 pub(crate) struct Report {
-    pub(crate) output: Bytes,
-    pub(crate) log: Bytes,
-    pub(crate) ending: Ending,
+    pub(crate) texts: Texts,
+    pub(crate) status: u8,
 }
 
-// How a run ends that has these warnings.
-fn printed_ending(warnings: &[u8]) -> Ending
-    ensures { result ≡ spec.printed_ending warnings.now }
+// The status of a run that has these warnings.
+fn printed_status(warnings: &[u8]) -> u8
+    ensures { result ≡ spec.printed_status warnings.now }
 {
     match warnings {
-        [] => Ending::Done,
-        _ => Ending::Warned,
+        [] => DONE,
+        _ => WARNED,
     }
 }
 
 // The report of lines and warnings.
-fn printed_report(lines: Bytes, warnings: Bytes) -> Report
-    ensures { result ≡ record { output = lines; log = warnings; ending = spec.printed_ending warnings } }
+fn printed_report(alloc: Global, lines: Bytes, warnings: Bytes) -> Report
+    ensures { result ≡ record { texts = record { out = lines; mail = []; log = warnings }; status = spec.printed_status warnings } }
 {
-    let ending = printed_ending(warnings.as_slice());
-    Report {
-        output: lines,
+    let status = printed_status(warnings.as_slice());
+    let texts = Texts {
+        out: lines,
+        mail: Bytes::new(alloc),
         log: warnings,
-        ending,
-    }
+    };
+    Report { texts, status }
+}
+
+// The report that has this line for the log alone.
+fn log_report(alloc: Global, line: Bytes, status: u8) -> Report
+    ensures { result ≡ record { texts = log_text line; status = status } }
+{
+    let mut texts = Texts::new(alloc);
+    texts.log = line;
+    Report { texts, status }
 }
 
 // The report of a refusal.
 fn refused_report(alloc: Global, refusal: &Refused) -> Result<Report, NoMemory>
-    ensures { IfOk result (λ report. report
-        ≡ record { output = []; log = refusal_line refusal.now; ending = Ending.Refused }) }
+    ensures { IfOk result (λ report. report ≡ record { texts = log_text (refusal_line refusal.now); status = REFUSED }) }
 {
-    Ok(Report {
-        output: Bytes::new(alloc),
-        log: refusal.line(alloc)?,
-        ending: Ending::Refused,
-    })
+    let line = refusal.line(alloc)?;
+    Ok(log_report(alloc, line, REFUSED))
 }
 
 // The report of a call on the file that failed.
 fn failed_report(alloc: Global, file: &[u8], call: &[u8]) -> Result<Report, NoMemory>
-    ensures { IfOk result (λ report. report
-        ≡ record { output = []; log = spec.failed_line file.now call.now; ending = Ending.FilesFailed }) }
+    ensures { IfOk result (λ report. report ≡ record { texts = log_text (spec.failed_line file.now call.now); status = FILES_FAILED }) }
 {
-    let mut log = Bytes::new(alloc);
-    log.extend_all(&[b"postgate: ", file, b": ", call, b" failed\n"])?;
-    Ok(Report {
-        output: Bytes::new(alloc),
-        log,
-        ending: Ending::FilesFailed,
-    })
+    let line = failed_line(alloc, file, call)?;
+    Ok(log_report(alloc, line, FILES_FAILED))
 }
 
 // Puts an edited text in the place of the file.
@@ -88,43 +80,39 @@ fn edited_report<F: Files>(
     files: &mut F,
 ) -> Result<Report, NoMemory>
     requires { IsUtf8 file.now }
-    ensures report { IfOk result (IsEditReport file.now text.now (F.content files.old) (F.content files.new)) }
-    ensures err { OnErr result ((F.content files.new ≡ F.content files.old) ⊎ (F.content files.new ≡ replaced file.now text.now (F.content files.old))) }
-    ensures failed { IfOk result (λ report. report.ending ≡ Ending.FilesFailed → Rose (F.faults files.old) (F.faults files.new)) }
-    ensures kept { IfOk result (λ report. report.ending ≢ Ending.FilesFailed → F.faults files.new ≡ F.faults files.old) }
+    ensures report { IfOk result (IsEditReport file.now text.now (F.told files.old) (F.told files.new)) }
+    ensures err { OnErr result (Leaves file.now (course.unreplaced text.now) (F.told files.old) (F.told files.new)
+        ⊎ Leaves file.now (course.starves_editing text.now) (F.told files.old) (F.told files.new)) }
 {
     let Ok(name) = str::from_utf8(file) else {
         unreachable!();
     };
     match files.replace(name, text) {
         Ok(()) => Ok(Report {
-            output: Bytes::new(alloc),
-            log: Bytes::new(alloc),
-            ending: Ending::Done,
+            texts: Texts::new(alloc),
+            status: DONE,
         }),
         Err(OuterFault::Failed) => failed_report(alloc, file, b"replace"),
         Err(OuterFault::NoMemory) => Err(NoMemory),
     }
 }
 
-/// What a run does to the files, and what it is to write. A call on the files failed only where their count of faults rose.
+/// What a run does to the files, and what it is to write.
 pub(crate) fn gather<F: Files>(
     alloc: Global,
     words: &ConfWords,
     files: &mut F,
 ) -> Result<Report, NoMemory>
     requires { sets_parameters words.now ≡ true }
-    ensures ok { IfOk result (Reports words.now (F.content files.old) (F.content files.new)) }
-    ensures err { OnErr result (Unfinished words.now (F.content files.old) (F.content files.new)) }
-    ensures output { is_edit words.now.mode ≡ true → IfOk result (λ report. report.output ≡ []) }
-    ensures same { is_edit words.now.mode ≡ false → F.content files.new ≡ F.content files.old }
-    ensures failed { IfOk result (λ report. report.ending ≡ Ending.FilesFailed → Rose (F.faults files.old) (F.faults files.new)) }
-    ensures kept { IfOk result (λ report. report.ending ≢ Ending.FilesFailed → F.faults files.new ≡ F.faults files.old) }
+    ensures ok { IfOk result (Reports words.now (F.told files.old) (F.told files.new)) }
+    ensures err { OnErr result (Unfinished words.now (F.told files.old) (F.told files.new)) }
+    ensures output { is_edit words.now.mode ≡ true → IfOk result (λ report. report.texts.out ≡ []) }
+    ensures same { is_edit words.now.mode ≡ false → (F.told files.new).content ≡ (F.told files.old).content }
 {
     let name = conf_name(alloc, &words.folder)?;
     let file = name.as_slice();
     match file_said(alloc, file, words, files) {
-        Ok(Said::Printed { lines, warnings }) => Ok(printed_report(lines, warnings)),
+        Ok(Said::Printed { lines, warnings }) => Ok(printed_report(alloc, lines, warnings)),
         Ok(Said::Edited(text)) => edited_report(alloc, file, text.as_slice(), files),
         Err(FileFault::Refused(refusal)) => refused_report(alloc, &refusal),
         Err(FileFault::Failed) => failed_report(alloc, file, b"read"),

@@ -5,7 +5,6 @@ ghost use Rattle.std.specs.Option.{option_copied, option_map_or};
 ghost use Rattle.pf_base.specs.Unless.{Unless};
 ghost use Rattle.pf_expand.specs.Names as names;
 ghost use Rattle.pf_expand.specs.Names.{Source as source};
-ghost use Rattle.pf_params.specs.Parameters.{line_of};
 ghost use Rattle.pf_params.specs.Presets.{preset_of};
 ghost use Rattle.pf_params.specs.Settled.{or_refused};
 ghost use Rattle.pf_tools.specs.Values as spec;
@@ -119,22 +118,38 @@ fn name_shown(
     }
 }
 
-// A refusal at the last setting of a name.
-fn at_setting(alloc: Global, all: &AllSettings, name: &[u8], refusal: Refused) -> ConfFault
-    ensures { result ≢ ConfFault.NoMemory → result ≡ ConfFault.Refused (record refusal { line = line_of all.now name.now; name = name.now }) }
+// The line of the setting that is shown of a name; a default stands in none.
+fn line_in(mode: ConfMode, all: &AllSettings, name: &[u8]) -> u64
+    ensures { result ≡ spec.line_in mode all.now name.now }
+{
+    match mode {
+        ConfMode::Defaults => 0,
+        _ => all.line(name),
+    }
+}
+
+// A refusal at the line of the setting that is shown of a name.
+fn at_setting(
+    alloc: Global,
+    mode: ConfMode,
+    all: &AllSettings,
+    name: &[u8],
+    refusal: Refused,
+) -> ConfFault
+    ensures { result ≢ ConfFault.NoMemory → result ≡ ConfFault.Refused (record refusal { line = spec.line_in mode all.now name.now; name = name.now }) }
 {
     match Bytes::from_slice(alloc, name) {
         Err(NoMemory) => ConfFault::NoMemory,
         Ok(copy) => ConfFault::Refused(Refused {
             file: refusal.file,
-            line: all.line(name),
+            line: line_in(mode, all, name),
             cause: refusal.cause,
             name: copy,
         }),
     }
 }
 
-/// The value that is printed of a name, or the refusal of its last setting; nothing where names alone are printed.
+/// The value that is printed of a name, or the refusal of the setting that is shown, of a default with line 0; nothing where names alone are printed.
 pub(crate) fn value_shown(
     alloc: Global,
     words: &ConfWords,
@@ -148,7 +163,7 @@ pub(crate) fn value_shown(
     }
     match name_shown(alloc, words, all, name) {
         Ok(value) => Ok(value),
-        Err(ConfFault::Refused(refusal)) => Err(at_setting(alloc, all, name, refusal)),
+        Err(ConfFault::Refused(refusal)) => Err(at_setting(alloc, words.mode, all, name, refusal)),
         Err(ConfFault::NoMemory) => Err(ConfFault::NoMemory),
     }
 }

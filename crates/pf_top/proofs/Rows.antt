@@ -1,12 +1,16 @@
 -- Worked examples of the definitions, each by computation.
-use Rattle.std.proofs.Common.{◌≡◌, ℕ, ◌++◌, true, false, List, [], ◌∷◌, map, Option, None, Some, Ok, Err, option_map, refl, codes}
+use Rattle.std.proofs.Common.{◌≡◌, ℕ, ◌++◌, true, false, List, [], ◌∷◌, map, Option, None, Some, Result, Ok, Err, option_map, refl, codes}
 use Rattle.std.specs.Fmt.{digits}
 use Rattle.std.specs.Str.{chars, is_utf8}
+use Rattle.pf_base.specs.Printing.{printed_line}
 use Rattle.pf_base.specs.Refusal.{cause_text, refusal_line}
 use Rattle.pf_base.specs.Words.{words_of}
-use Rattle.pf_base.specs.declared.refused.Cause.TheVariants.{C2, C5, C6, C10, C14, C15}
+use Rattle.pf_base.specs.declared.refused.Cause.TheVariants.{C2, C5, C6, C10, C14}
+use Rattle.pf_base.specs.declared.refused.ConfFault.{ConfFault}
 use Rattle.pf_base.specs.declared.refused.ConfFault.TheVariants as conf_fault
 use Rattle.pf_base.specs.declared.refused.Refused.{Refused}
+use Rattle.pf_base.specs.declared.texts.SinkFault.TheVariants as sink
+use Rattle.pf_base.specs.declared.texts.Texts.{Texts}
 use Rattle.pf_catalogue.specs.Catalogue.{catalogue}
 use Rattle.pf_catalogue.specs.declared.value.Value.TheVariants.{Text, Items}
 use Rattle.pf_eval.specs.Judge.{end_of}
@@ -25,15 +29,16 @@ use Rattle.pf_smtp.specs.Command.{after_keyword, verb_of}
 use Rattle.pf_smtp.specs.Path.{path_of}
 use Rattle.pf_smtp.specs.Session.{steps}
 use Rattle.pf_smtp.specs.Step.{command, step}
-use Rattle.pf_smtp.specs.Text.{accepted_line, denied_line, greeting_of, helo_text, mail_text, quit_text, rcpt_text, relay_denied_text, text_of}
+use Rattle.pf_smtp.specs.Text.{accepted_text, denied_text, greeting_of, helo_text, log_line, mail_text, quit_text, rcpt_text, relay_denied_text, text_of}
+use Rattle.pf_tools.specs.Course.{bytes_in, failed_line}
 use Rattle.pf_top.specs.Nets.{net_of, net_with}
-use Rattle.pf_top.specs.Opening.{conf_opened, file_opened, opening_of, reading_named, setup_of}
+use Rattle.pf_top.specs.Opening.{opening_of, reading_named, setup_of}
 use Rattle.pf_top.specs.Profile.{cause_from, first_refused, is_within, parameter_refusal}
-use Rattle.pf_top.specs.Refusals.{conf_refusal, file_refusal, names_refusal, relay_refusal, settings_refusal, whole_refused}
-use Rattle.pf_top.specs.Run.{is_without_fault, objects, postconf_faults, postconf_world, usage_line}
-use Rattle.pf_top.specs.Smtpd as smtpd
-use Rattle.pf_top.specs.Smtpd.{ended_status, fault_status, faults, is_cut, is_status, logged, opened_in, read_failed_line, refused_in}
-use Rattle.pf_top.specs.Talk.{counts, log_of, records_of, replies_to, world}
+use Rattle.pf_top.specs.Refusals.{file_opened, names_refusal, relay_refusal, settings_refusal}
+use Rattle.pf_top.specs.Run.{usage_line}
+use Rattle.pf_top.specs.Smtpd.{course_status, talk_status}
+use Rattle.pf_top.specs.Smtpd.{Course as course}
+use Rattle.pf_top.specs.Talk.{speech_of}
 use Rattle.pf_top.specs.Values.{closed_list, host_of, hosts_of, is_closing, nets_of, one_or_more, relay_of, restriction_of}
 use Rattle.pf_top.specs.declared.opening.Opening.{Opening}
 use Rattle.pf_top.specs.declared.talk.Ended.TheVariants as ended
@@ -144,47 +149,38 @@ causes : cause_from (codes "myorigin") true (Ok (a_text [])) ∷ cause_from (cod
 causes = refl
 
 -- what a main.cf says
-accepted_text : map (file_opened (codes "main.cf")) (Some text ∷ None ∷ []) ≡ Some site ∷ None ∷ []
-unfolding file_opened conf_of opening_of reading_named reading_of words_of catalogue name_value text_value parts first_part form_of host_of hosts_of nets_of net_of ipv4_of octet_of relay_of
+accepted_text : map (file_opened (codes "main.cf")) (Some text ∷ None ∷ [])
+    ≡ Ok site ∷ Err (conf_fault.Refused (record { file = codes "main.cf"; line = 0; cause = C10; name = codes "main.cf" })) ∷ []
+unfolding conf_of settings_refusal parameter_refusal class_of opening_of reading_named reading_of words_of catalogue name_value text_value parts first_part form_of host_of hosts_of nets_of net_of ipv4_of octet_of relay_of
     restriction_of
 accepted_text = refl
 
 values_of_names : file_opened (codes "main.cf") (Some (codes "n = 10.0.0.0/8\nmynetworks = $n\nr = unauth\nsmtpd_relay_restrictions = reject_${r}_destination\n"
     ++ codes "mail_name = M\nmyhostname = a.b\nsmtpd_banner = $myhostname $mail_name\n"))
-    ≡ Some (record {
+    ≡ Ok (record {
       host = codes "a.b";
       banner = codes "a.b M";
       policy = record { destinations = codes "a.b" ∷ codes "localhost.b" ∷ codes "localhost" ∷ []; networks = ten ∷ []; relay = RejectUnauthDestination ∷ [] };
     })
-unfolding file_opened conf_of opening_of reading_named reading_of words_of catalogue name_value text_value parts first_part form_of host_of hosts_of nets_of net_of ipv4_of octet_of relay_of
+unfolding conf_of settings_refusal parameter_refusal class_of opening_of reading_named reading_of words_of catalogue name_value text_value parts first_part form_of host_of hosts_of nets_of net_of ipv4_of octet_of relay_of
     restriction_of
 values_of_names = refl
-
-not_read : conf_opened (Err conf_fault.NoMemory) ≡ None
-not_read = refl
 
 with_its_client : setup_of site 167838211 ≡ record { host = site.host; banner = site.banner; policy = site.policy; client = 167838211 }
 with_its_client = refl
 
 -- the lines of refused texts
+abbrev line_of : Result Opening ConfFault → Option (List ℕ)
+line_of (Err (conf_fault.Refused first)) = Some (refusal_line first)
+line_of other = None
+
 abbrev said : List ℕ → Option (List ℕ)
-said content = option_map refusal_line (file_refusal (codes "main.cf") (Some content))
-
-no_file : file_refusal (codes "d/main.cf") None ≡ Some (whole_refused (codes "d/main.cf") C10)
-unfolding file_refusal
-no_file = refl
-
-file_too_large : refusal_line (whole_refused (codes "main.cf") C15) ≡ codes "postgate: main.cf:0: C15 file too large: main.cf\n"
-unfolding refusal_line cause_text digits
-file_too_large = refl
-
-text_refused_before : map conf_refusal (Err (conf_fault.Refused (whole_refused [] C2)) ∷ Err conf_fault.NoMemory ∷ []) ≡ Some (whole_refused [] C2) ∷ None ∷ []
-text_refused_before = refl
+said content = line_of (file_opened (codes "main.cf") (Some content))
 
 lines_are_first : map said (codes "# c\n a = b\nc\n" ∷ (text ++ codes "a\n b\nrelay_domains = c\n") ∷ (text ++ codes "my\u{7f} = a\nb\n") ∷ (text ++ codes "= a\n") ∷ [])
     ≡ Some (codes "postgate: main.cf:2: C1 continuation of nothing\n") ∷ Some (codes "postgate: main.cf:5: C2 no equals sign\n")
     ∷ Some (codes "postgate: main.cf:5: C3 bad name\n") ∷ Some (codes "postgate: main.cf:5: C3 bad name\n") ∷ []
-unfolding file_refusal conf_of refusal_line cause_text digits
+unfolding conf_of refusal_line printed_line cause_text digits
 lines_are_first = refl
 
 -- refusals of settings: none, a parameter that is not built, one that must be set, one without its form, of several the least name, and mydomain, which takes
@@ -195,15 +191,15 @@ parameters_in_order : map said (text ∷ (text ++ codes "relay_domains = a\n") �
     ∷ Some (codes "postgate: main.cf:0: C14 setting outside the profile: mynetworks\n") ∷ Some (codes "postgate: main.cf:5: C14 setting outside the profile: mydestination\n")
     ∷ Some (codes "postgate: main.cf:6: C6 bad value: append_dot_mydomain\n") ∷ Some (codes "postgate: main.cf:6: C5 bad dollar form: myorigin\n")
     ∷ Some (codes "postgate: main.cf:0: C5 bad dollar form: mydomain\n") ∷ []
-unfolding file_refusal conf_of settings_refusal parameter_refusal reading_named reading_of class_of words_of catalogue name_value text_value parts first_part form_of host_of hosts_of nets_of net_of
-    ipv4_of octet_of relay_of restriction_of refusal_line cause_text digits
+unfolding conf_of settings_refusal parameter_refusal reading_named reading_of class_of words_of catalogue name_value text_value parts first_part form_of host_of hosts_of nets_of net_of
+    ipv4_of octet_of relay_of restriction_of refusal_line printed_line cause_text digits
 parameters_in_order = refl
 
 -- a class is looked at among the parameters
 class_among_parameters : map said ((text ++ codes "smtpd_restriction_classes = a\na = {\n") ∷ (text ++ codes "smtpd_restriction_classes = z\nz = {\n") ∷ [])
     ≡ Some (codes "postgate: main.cf:6: C6 bad value: a\n") ∷ Some (codes "postgate: main.cf:5: C14 setting outside the profile: smtpd_restriction_classes\n") ∷ []
-unfolding file_refusal conf_of settings_refusal parameter_refusal reading_named reading_of class_of words_of catalogue name_value text_value parts first_part form_of host_of hosts_of nets_of net_of
-    ipv4_of octet_of relay_of restriction_of refusal_line cause_text digits
+unfolding conf_of settings_refusal parameter_refusal reading_named reading_of class_of words_of catalogue name_value text_value parts first_part form_of host_of hosts_of nets_of net_of
+    ipv4_of octet_of relay_of restriction_of refusal_line printed_line cause_text digits
 class_among_parameters = refl
 
 -- the relay list comes last, its words before what it lacks
@@ -213,88 +209,63 @@ none_set = record { file = codes "main.cf"; settings = [] }
 checks_of_the_relay_list : map (λ items. option_map refusal_line (relay_refusal none_set items))
     ((codes "reject_unauth_destination" ∷ []) ∷ (codes "permit_mynetworks" ∷ codes "a\u{7f}" ∷ codes "b" ∷ []) ∷ (codes "permit_mynetworks" ∷ []) ∷ [])
     ≡ None ∷ Some (codes "postgate: main.cf:0: C7 unknown restriction: a?\n") ∷ Some (codes "postgate: main.cf:0: C14 setting outside the profile: smtpd_relay_restrictions\n") ∷ []
-unfolding relay_of restriction_of refusal_line cause_text digits
+unfolding relay_of restriction_of refusal_line printed_line cause_text digits
 checks_of_the_relay_list = refl
 
 relay_list_is_last : map said ((text ++ codes "smtpd_relay_restrictions = permit\nz = $(\n") ∷ (text ++ codes "virtual_alias_maps = a:b\nsmtpd_relay_restrictions = permit\n") ∷ [])
     ≡ Some (codes "postgate: main.cf:5: C7 unknown restriction: permit\n") ∷ Some (codes "postgate: main.cf:5: C14 setting outside the profile: virtual_alias_maps\n") ∷ []
-unfolding file_refusal conf_of settings_refusal parameter_refusal reading_named reading_of class_of words_of catalogue name_value text_value parts first_part form_of host_of hosts_of nets_of net_of
-    ipv4_of octet_of relay_of restriction_of refusal_line cause_text digits
+unfolding conf_of settings_refusal parameter_refusal reading_named reading_of class_of words_of catalogue name_value text_value parts first_part form_of host_of hosts_of nets_of net_of
+    ipv4_of octet_of relay_of restriction_of refusal_line printed_line cause_text digits
 relay_list_is_last = refl
 
 -- talks
-four_objects : world (Some []) None (Some []) (Some (codes "a"))
-    ≡ record { input = Some []; sinks = record { out = None; mail = Some []; log = Some (codes "a") } }
-four_objects = refl
+abbrev spoken : ℕ → List ℕ → Texts
+spoken client taken = (speech_of (setup_of site client)).said taken
 
-four_counts : counts 1 2 3 4 ≡ record { input = 1; sinks = record { out = 2; mail = 3; log = 4 } }
-four_counts = refl
-
-greeting_alone : replies_to (setup_of site 167838211) [] ≡ codes "220 mx.example.com ESMTP Postfix\r\n"
+greeting_alone : spoken 167838211 [] ≡ record { out = codes "220 mx.example.com ESMTP Postfix\r\n"; mail = []; log = [] }
 unfolding greeting_of steps
 greeting_alone = refl
 
 abbrev talked : List ℕ
 talked = codes "HELO c.test\r\nMAIL FROM:<a@b.test>\r\nRCPT TO:<joe@other.test>\r\nQUIT\r\nQUIT\r\n"
 
-no_record_today : records_of (setup_of site 167838211) talked ≡ []
+texts_for_an_own_client : spoken 167838211 talked ≡ record {
+  out = codes "220 mx.example.com ESMTP Postfix\r\n250 mx.example.com\r\n250 2.1.0 Ok\r\n250 2.1.5 Ok\r\n221 2.0.0 Bye\r\n";
+  mail = [];
+  log = codes "3 RCPT <joe@other.test> accept\n";
+}
+unfolding greeting_of steps step command verb_of after_keyword path_of end_of text_of helo_text mail_text rcpt_text quit_text log_line printed_line accepted_text digits
+texts_for_an_own_client = refl
+
+texts_for_a_stranger : spoken 3221225993 talked ≡ record {
+  out = codes "220 mx.example.com ESMTP Postfix\r\n250 mx.example.com\r\n250 2.1.0 Ok\r\n"
+      ++ codes "554 5.7.1 <joe@other.test>: Relay access denied\r\n221 2.0.0 Bye\r\n";
+  mail = [];
+  log = codes "3 RCPT <joe@other.test> deny smtpd_relay_restrictions[2] reject_unauth_destination -\n";
+}
+unfolding greeting_of steps step command verb_of after_keyword path_of end_of text_of helo_text mail_text rcpt_text relay_denied_text quit_text log_line printed_line denied_text digits
+texts_for_a_stranger = refl
+
+over_behind_quit : map (speech_of (setup_of site 167838211)).over (talked ∷ codes "HELO c.test\r\nQUIT" ∷ [] ∷ []) ≡ true ∷ false ∷ false ∷ []
 unfolding steps step command verb_of after_keyword path_of end_of
-no_record_today = refl
-
-replies_to_a_stranger : replies_to (setup_of site 3221225993) talked
-    ≡ codes "220 mx.example.com ESMTP Postfix\r\n250 mx.example.com\r\n250 2.1.0 Ok\r\n"
-    ++ codes "554 5.7.1 <joe@other.test>: Relay access denied\r\n221 2.0.0 Bye\r\n"
-unfolding greeting_of steps step command verb_of after_keyword path_of end_of text_of helo_text mail_text rcpt_text relay_denied_text quit_text
-replies_to_a_stranger = refl
-
-log_of_an_own_client : log_of (setup_of site 167838211) talked ≡ codes "3 RCPT <joe@other.test> accept\n"
-unfolding steps step command verb_of after_keyword path_of end_of accepted_line digits
-log_of_an_own_client = refl
-
-log_of_a_stranger : log_of (setup_of site 3221225993) talked
-    ≡ codes "3 RCPT <joe@other.test> deny smtpd_relay_restrictions[2] reject_unauth_destination -\n"
-unfolding steps step command verb_of after_keyword path_of end_of denied_line digits
-log_of_a_stranger = refl
+over_behind_quit = refl
 
 -- runs
 usage_of_the_words : usage_line ≡ codes "usage: postgate smtpd|relaycheck|postconf|postmap|workload\n"
 unfolding usage_line
 usage_of_the_words = refl
 
-failed_read : read_failed_line (codes "d/main.cf") ≡ codes "postgate: d/main.cf: read failed\n"
+failed_read : failed_line (codes "d\n/main.cf") (codes "read") ≡ codes "postgate: d?/main.cf: read failed\n"
+unfolding printed_line
 failed_read = refl
 
-main_cf_in_capitals : refused_in (codes "main.cf") (record { key = codes "MAIN.CF"; value = text } ∷ []) ≡ Some (whole_refused (codes "main.cf") C10)
-unfolding file_refusal is_utf8 chars lib.Utf8.encode
+main_cf_in_capitals : bytes_in (record { key = codes "MAIN.CF"; value = text } ∷ []) (codes "main.cf") ≡ None
+unfolding is_utf8 chars lib.Utf8.encode
 main_cf_in_capitals = refl
 
-log_takes_a_line : logged (world (Some []) None (Some []) (Some (codes "a\n"))) (codes "b\n") ≡ world (Some []) None (Some []) (Some (codes "a\nb\n"))
-log_takes_a_line = refl
+statuses_of_sessions : map talk_status (Ok ended.AtEnd ∷ Ok ended.AtOver ∷ Ok ended.AtBudget ∷ Err fault.Input ∷ Err (fault.Sink sink.Out) ∷ Err (fault.Sink sink.NoMemory) ∷ [])
+    ≡ 0 ∷ 0 ∷ 10 ∷ 4 ∷ 5 ∷ 9 ∷ []
+statuses_of_sessions = refl
 
-five_counts : faults 1 2 3 4 5 ≡ record { input = 1; out = 2; mail = 3; log = 4; files = 5 }
-five_counts = refl
-
-three_counts : postconf_faults (objects (world None None None None) None (faults 1 2 3 4 5)) ≡ record { out = 2; log = 4; files = 5 }
-three_counts = refl
-
-three_objects : postconf_world (objects (world (Some []) (Some (codes "o")) None (Some (codes "l"))) None (faults 0 0 0 0 0)) ≡ record { out = Some (codes "o"); log = Some (codes "l"); files = None }
-three_objects = refl
-
-statuses_of_ends : map ended_status (ended.AtEnd ∷ ended.AtOver ∷ ended.AtBudget ∷ []) ≡ 0 ∷ 0 ∷ 10 ∷ []
-statuses_of_ends = refl
-
-statuses_of_faults : map fault_status (fault.Input ∷ fault.Out ∷ fault.Mail ∷ fault.Log ∷ fault.NoMemory ∷ []) ≡ 4 ∷ 5 ∷ 6 ∷ 7 ∷ 9 ∷ []
-statuses_of_faults = refl
-
-statuses : map is_status (0 ∷ 1 ∷ 2 ∷ 3 ∷ 4 ∷ 5 ∷ 6 ∷ 7 ∷ 8 ∷ 9 ∷ 10 ∷ 11 ∷ [])
-    ≡ true ∷ false ∷ false ∷ true ∷ true ∷ true ∷ true ∷ true ∷ true ∷ true ∷ true ∷ false ∷ []
-statuses = refl
-
-statuses_without_a_fault : map is_without_fault (0 ∷ 1 ∷ 2 ∷ 3 ∷ 10 ∷ 4 ∷ 9 ∷ []) ≡ true ∷ true ∷ true ∷ true ∷ true ∷ false ∷ false ∷ []
-statuses_without_a_fault = refl
-
-session_without_a_fault : map smtpd.is_without_fault (0 ∷ 1 ∷ 2 ∷ 3 ∷ 10 ∷ 4 ∷ 9 ∷ []) ≡ true ∷ false ∷ false ∷ true ∷ true ∷ false ∷ false ∷ []
-session_without_a_fault = refl
-
-statuses_of_a_cut : map is_cut (5 ∷ 6 ∷ 7 ∷ 9 ∷ 4 ∷ 8 ∷ []) ≡ true ∷ true ∷ true ∷ true ∷ false ∷ false ∷ []
-statuses_of_a_cut = refl
+statuses_of_courses : map course_status (course.talks site (Ok ended.AtEnd) ∷ course.unread (Ok tt) ∷ course.unread (Err sink.Log) ∷ course.starves ∷ []) ≡ 0 ∷ 8 ∷ 7 ∷ 9 ∷ []
+statuses_of_courses = refl

@@ -1,63 +1,41 @@
 -- What a run leaves, put together.
-use Rattle.std.proofs.Common.{◌≡◌, ℕ, List, Option, Some, inr, refl}
-use Rattle.std.specs.Prelude.{◌≢◌, ◌⊎◌}
-use Rattle.pf_base.proofs.ToldLemmas.{front_none}
-use Rattle.pf_base.specs.declared.pair.Pair.{Pair}
-use Rattle.pf_base.specs.declared.refused.Refused.{Refused}
-use Rattle.pf_tools.specs.Course.{conf_name}
-use Rattle.pf_top.specs.Opened.{IsOpened}
-use Rattle.pf_top.specs.Smtpd.{CutOff, IsRefused, Opens, SaysFront, ended_status, fault_status, opened_in, read_failed_line, refused_in}
-use Rattle.pf_top.specs.Talk.{World}
-use Rattle.pf_top.specs.declared.opening.Opened.{Opened}
-use Rattle.pf_top.specs.declared.opening.Opened.TheVariants as opened
-use Rattle.pf_top.specs.declared.opening.Opening.{Opening}
-use Rattle.pf_top.specs.declared.talk.Ended.{Ended}
-use Rattle.pf_top.specs.declared.talk.Ended.TheVariants as ended
-use Rattle.pf_top.specs.declared.talk.TalkFault.{TalkFault}
-use Rattle.pf_top.specs.declared.talk.TalkFault.TheVariants as fault
+use Rattle.std.proofs.Common.{◌≡◌, ℕ, Option, None, Some, Err, [], refl, sym, ap, subst, ◌∙◌}
+use Rattle.pf_base.proofs.ToldLemmas.{stops_first}
+use Rattle.pf_base.specs.Objects.{Objects, log_text}
+use Rattle.pf_base.specs.declared.texts.SinkFault.TheVariants.{NoMemory}
+use Rattle.pf_tools.specs.Course.{Course as tools}
+use Rattle.pf_tools.specs.Run.{PostconfRun}
+use Rattle.pf_top.specs.Run.{Leaves, Unformed, usage_line}
+use Rattle.pf_top.specs.Smtpd.{SmtpdRun}
+use Rattle.pf_top.specs.Smtpd.{Course as course}
+use Rattle.pf_words.specs.declared.postconf.ConfWords.{ConfWords}
 use Rattle.pf_words.specs.declared.smtpd.SmtpdWords.{SmtpdWords}
+use Rattle.pf_words.specs.declared.words.Words.{Words}
+use Rattle.pf_words.specs.declared.words.Words.TheVariants.{Smtpd, Postconf}
 
--- main.cf was accepted
-abbrev pub opens : (words : SmtpdWords) (content : Option (List Pair)) (file : List ℕ) (opening : Opening) (answer : Opened)
-    → file ≡ conf_name words.folder → answer ≡ opened.Accepted opening
-    → ((files : List Pair) → content ≡ Some files → IsOpened (refused_in file files) (opened_in file files) answer) → Opens words content
-opens words content file opening answer named is told = record {
-  opening = opening;
-  accepted = λ files e. rw (named, is) at (told files e);
+-- memory was wanting before the command was known
+pub nothing_left : (words : Option Words) (o : Objects) → Leaves words o o 9
+nothing_left None o = record { said = Err NoMemory; status_is = refl; says = record { says = stops_first o.streams.sinks (log_text usage_line); input = refl }; files = refl }
+nothing_left (Some (Smtpd words)) o = record { course = course.starves; status_is = refl; leaves = ((refl, refl), refl) }
+nothing_left (Some (Postconf words)) o = record {
+  courses = record { course = tools.starves; is = tt; leaves = (refl, refl) };
+  said = Err NoMemory;
+  says = stops_first o.streams.sinks (record { out = []; mail = []; log = [] });
+  status_is = refl;
+  through = λ done. cc;
+  silent = λ none. refl;
+  edit = λ is. refl;
+  kept = λ is. refl;
+  rest = (refl, refl);
 }
 
--- main.cf was refused
-abbrev pub is_refused : (words : SmtpdWords) (content : Option (List Pair)) (file : List ℕ) (refusal : Refused) (answer : Opened)
-    → file ≡ conf_name words.folder → answer ≡ opened.Refused refusal
-    → ((files : List Pair) → content ≡ Some files → IsOpened (refused_in file files) (opened_in file files) answer) → IsRefused words content
-is_refused words content file refusal answer named is told = record {
-  refusal = refusal;
-  first = λ files e. rw (named, is) at (told files e);
-}
+-- the words that were read are those of the command
+module _ {before now : Objects} {status : ℕ} {answer read : Option Words} {inner : Words} (same : answer ≡ read) (some : answer ≡ Some inner) where
+  pub smtpd_left : {words : SmtpdWords} → inner ≡ Smtpd words → SmtpdRun words before now status → Leaves read before now status
+  smtpd_left is ran = subst (λ w. Leaves w before now status) (ap Some (sym is) ∙ sym some ∙ same) ran
 
--- what a status says of how a session came to its end, and of its fault
-pub done_is : (how : Ended) → ended_status how ≡ 0 → how ≢ ended.AtBudget
-done_is ended.AtEnd done e = cc
-done_is ended.AtOver done e = cc
-done_is ended.AtBudget done e = cc
+  pub postconf_left : {words : ConfWords} → inner ≡ Postconf words → PostconfRun words before now status → Leaves read before now status
+  postconf_left is ran = subst (λ w. Leaves w before now status) (ap Some (sym is) ∙ sym some ∙ same) ran
 
-pub budget_is : (how : Ended) → ended_status how ≡ 10 → how ≡ ended.AtBudget
-budget_is ended.AtEnd at = cc
-budget_is ended.AtOver at = cc
-budget_is ended.AtBudget at = refl
-
-pub input_is : (why : TalkFault) → fault_status why ≡ 4 → why ≡ fault.Input
-input_is fault.Input is = refl
-input_is fault.Out is = cc
-input_is fault.Mail is = cc
-input_is fault.Log is = cc
-input_is fault.NoMemory is = cc
-
--- nothing was written, since memory was wanting before
-pub says_nothing : (words : SmtpdWords) (content : Option (List Pair)) (before : World) → CutOff words content before before ⊎ SaysFront words content before before
-says_nothing words content before = inr (record {
-  line = read_failed_line (conf_name words.folder);
-  is = inr refl;
-  front = front_none before.sinks.log (read_failed_line (conf_name words.folder));
-  rest = refl;
-})
+pub unformed_left : {before now : Objects} {status : ℕ} {answer read : Option Words} → answer ≡ read → answer ≡ None → Unformed before now status → Leaves read before now status
+unformed_left {before} {now} {status} same none ran = subst (λ w. Leaves w before now status) (sym none ∙ same) ran

@@ -1,21 +1,28 @@
--- Pieces that pass from the input to a session.
-use Rattle.std.proofs.Common.{◌≡◌, ℕ, ◌+◌, ◌<◌, ◌≤◌, Bool, true, false, List, [], ◌++◌, append-nil, refl, sym, ap, subst, ◌∙◌, arith, if◌then◌else◌, length-append}
-use Rattle.std.specs.Io.KnownBytes.{append_known, prepend_known, IsAtEnd}
-use Rattle.pf_base.proofs.ToldLemmas.{append_known-append, front_after, front_none, prepend_known-append, prepend_known-nil}
-use Rattle.pf_base.specs.Told.{HoldsFront}
-use Rattle.pf_smtp.specs.Feeding.{TookFront, fresh, given}
-use Rattle.pf_smtp.specs.Session.{session, start, steps, replies_text, records_text, log_text}
+-- Pieces that pass from the input to a session, and what is said for them.
+use Rattle.std.proofs.Common.{◌≡◌, ℕ, ◌+◌, ◌<◌, ◌≤◌, Bool, true, false, List, [], ◌++◌, Result, Ok, Err, inr, refl, sym, ap, subst, ◌∙◌, arith, if◌then◌else◌, length-append, append_assoc, fun_ext}
+use Rattle.std.specs.Io.KnownBytes.{IsAtEnd}
+use Rattle.pf_base.proofs.ToldLemmas.{appended_more, takes_more, takes_none}
+use Rattle.pf_base.specs.Lines.{lines}
+use Rattle.pf_base.specs.Objects.{Streams, appended, joined, out_text}
+use Rattle.pf_base.specs.Told.{Takes, failed_input}
+use Rattle.pf_base.specs.declared.texts.SinkFault.{SinkFault}
+use Rattle.pf_base.specs.declared.texts.Texts.{Texts}
+use Rattle.pf_smtp.proofs.PieceLemmas.{joined_assoc}
+use Rattle.pf_smtp.proofs.StepLemmas.{onto_line_nothing}
+use Rattle.pf_smtp.proofs.TookLemmas.{texts_more, took_more, took_none}
+use Rattle.pf_smtp.specs.Feeding.{fresh, given, texts_given, texts_of}
+use Rattle.pf_smtp.specs.Session.{session, start, steps}
+use Rattle.pf_smtp.specs.Step.{Step}
 use Rattle.pf_smtp.specs.Text.{greeting_of}
 use Rattle.pf_smtp.specs.declared.session.Going.TheVariants.{More, Over}
 use Rattle.pf_smtp.specs.declared.standing.Standing.{Standing}
 use Rattle.pf_smtp.specs.declared.state.Setup.{Setup}
-use Rattle.pf_smtp.proofs.StepLemmas.{onto_line_nothing}
-use Rattle.pf_smtp.proofs.TookLemmas.{front_more, front_of_none, took_none, took_more}
-use Rattle.pf_base.specs.Lines.{lines}
-use Rattle.pf_top.specs.Talk.{World, SessionEndsAs, Talks, TalksFront, TalksShort, TalksUntil}
-use Rattle.pf_top.specs.Turns.{Passed, PassedCount, PassedFront, PassedShort, Serves, EndsAs}
+use Rattle.pf_top.specs.Talk.{EndsAs, HasSession, Speech, Talked, Talks, TalksCut, TalksShort, TalksUntil, speech_of}
+use Rattle.pf_top.specs.Turns.{IsTurn, Passed, Stops, speech_from}
 use Rattle.pf_top.specs.declared.talk.Ended.{Ended}
 use Rattle.pf_top.specs.declared.talk.Ended.TheVariants as ended
+use Rattle.pf_top.specs.declared.talk.TalkFault.{TalkFault}
+use Rattle.pf_top.specs.declared.talk.TalkFault.TheVariants as fault
 
 pub going_more : (b : Bool) → More ≡ (if b then Over else More) → b ≡ false
 going_more true e = cc
@@ -26,130 +33,140 @@ going_over true e = refl
 going_over false e = cc
 
 -- nothing has passed to a session that has not begun
-pub passed_none : (w : World) (setup : Setup) → PassedCount w w (fresh setup) (fresh setup) 0
-passed_none w setup = record {
-  passed = record { taken = []; input = sym (prepend_known-nil w.input); took = took_none w.sinks setup };
-  is = refl;
-}
+pub passed_none : (w : Streams) (setup : Setup) → Passed w w (fresh setup) (fresh setup) 0
+passed_none w setup = record { taken = []; is = refl; input = takes_none w.input; took = took_none w.sinks setup }
 
-pub passed_more : {a b c : World} {s t u : Standing} → Passed a b s t → Passed b c t u → Passed a c s u
-passed_more {a} {b} {c} p q = record {
+pub passed_more : {a b c : Streams} {s t u : Standing} {m n : ℕ} → Passed a b s t m → Passed b c t u n → Passed a c s u (m + n)
+passed_more {m = m} {n = n} p q = record {
   taken = p.taken ++ q.taken;
-  input = p.input ∙ ap (prepend_known p.taken) q.input ∙ prepend_known-append p.taken q.taken c.input;
+  is = length-append p.taken q.taken ∙ omega (arith, p.is, q.is);
+  input = takes_more p.input q.input;
   took = took_more p.took q.took;
 }
 
-pub count_more : {a b c : World} {s t u : Standing} {m n : ℕ} → PassedCount a b s t m → PassedCount b c t u n → PassedCount a c s u (m + n)
-unfolding passed_more
-count_more {m = m} {n = n} p q = record {
-  passed = passed_more p.passed q.passed;
-  is = length-append p.passed.taken q.passed.taken ∙ omega (arith, p.is, q.is);
-}
+-- whether it is over behind what has passed
+over_is : {a b : Streams} {s t : Standing} {n : ℕ} (p : Passed a b s t n) → (given s p.taken).next.over ≡ t.state.over
+over_is p = ap (λ x. x.over) (sym p.took.state)
 
 -- nothing is left before the budget was taken
-pub ends_here : {a b now : World} {s t u : Standing} {n budget : ℕ} → now ≡ b → u ≡ t → IsAtEnd b.input → PassedCount a b s t n → n < budget → Serves a now s u budget ended.AtEnd
-ends_here same standing at p less = rw (same, standing) (record { passed = p.passed; ends = (at, omega (arith, p.is, less)) })
+pub ends_here : {a b now : Streams} {s t : Standing} {n budget : ℕ} → now ≡ b → IsAtEnd b.input.left → t.state.over ≡ false → Passed a b s t n → n < budget
+    → TalksUntil (speech_from s) budget a now ended.AtEnd
+ends_here same at going p less = rw same (record {
+  taken = p.taken;
+  talks = record { input = p.input; sinks = p.took.sinks };
+  ends = (at, omega (arith, p.is, less), over_is p ∙ going);
+})
 
--- a turn took nothing before the budget was taken
-pub short_here : {a b now : World} {s t u : Standing} {n budget : ℕ} → now ≡ b → u ≡ t → PassedCount a b s t n → n < budget → PassedShort a now s u budget
-short_here same standing p less = rw (same, standing) (record { passed = p.passed; short = omega (arith, p.is, less) })
+-- the session is over with a piece
+pub over_here : {a b c : Streams} {s t u : Standing} {m n : ℕ} (budget : ℕ) → t.state.over ≡ false → u.state.over ≡ true → Passed a b s t m → Passed b c t u n → n ≤ 4096 → m + n ≤ budget
+    → TalksUntil (speech_from s) budget a c ended.AtOver
+over_here budget going over p q few within = record {
+  taken = p.taken ++ q.taken;
+  talks = record { input = takes_more p.input q.input; sinks = (took_more p.took q.took).sinks };
+  ends = (
+    ap (λ x. x.over) (sym (took_more p.took q.took).state) ∙ over,
+    omega (arith, length-append p.taken q.taken, p.is, q.is, within),
+    record { earlier = p.taken; piece = q.taken; parts = refl; few = omega (arith, q.is, few); going = over_is p ∙ going },
+  );
+}
+
+-- the budget was taken
+pub budget_here : {a b : Streams} {s t : Standing} {n budget : ℕ} → t.state.over ≡ false → Passed a b s t n → n ≡ budget → TalksUntil (speech_from s) budget a b ended.AtBudget
+budget_here going p all = record {
+  taken = p.taken;
+  talks = record { input = p.input; sinks = p.took.sinks };
+  ends = (p.is ∙ all, over_is p ∙ going);
+}
+
+-- a read failed before the budget was taken
+pub short_here : {a b now : Streams} {s t : Standing} {n budget : ℕ} → now ≡ record b { input = failed_input b.input } → t.state.over ≡ false → Passed a b s t n → n < budget
+    → TalksShort (speech_from s) budget a now
+short_here {b = b} broken going p less = record {
+  taken = p.taken;
+  mid = b;
+  talks = record { input = p.input; sinks = p.took.sinks };
+  short = omega (arith, p.is, less);
+  going = over_is p ∙ going;
+  broken = broken;
+}
+
+-- a fault came with a piece
+pub cut_here : {a b now : Streams} {s t : Standing} {n most budget : ℕ} {why : SinkFault} → t.state.over ≡ false → Passed a b s t n → Stops b now t most why → most ≤ 4096 → n + most ≤ budget
+    → TalksCut (speech_from s) budget a now why
+cut_here {b = b} {t = t} going p stops few within = record {
+  earlier = p.taken;
+  mid = b;
+  talks = record { input = p.input; sinks = p.took.sinks };
+  going = over_is p ∙ going;
+  piece = stops.piece;
+  few = omega (arith, stops.few, few);
+  within = omega (arith, p.is, stops.few, within);
+  input = stops.input;
+  texts = texts_given t stops.piece;
+  adds = texts_more stops.piece p.took;
+  stops = stops.stops;
+}
+
+-- either fault of a turn
+pub talked_fault : {a b now : Streams} {s t u : Standing} {n most budget : ℕ} (why : TalkFault) → t.state.over ≡ false → Passed a b s t n → IsTurn b now t u most (Err why)
+    → n < budget → most ≤ 4096 → n + most ≤ budget → Talked (speech_from s) budget a now (Err why)
+talked_fault fault.Input going p turn less few within = short_here turn.0 going p less
+talked_fault (fault.Sink why) going p turn less few within = cut_here going p turn few within
+
+-- what is said behind a text
+abbrev behind : Texts → Speech → Speech
+behind first speech = record { said = λ taken. joined first (speech.said taken); over = speech.over }
+
+module _ (first : Texts) (speech : Speech) (before mid : Streams) (greeted : mid ≡ record before { sinks = appended before.sinks first }) where
+  talks_behind : {now : Streams} {taken : List ℕ} → Talks speech mid now taken → Talks (behind first speech) before now taken
+  talks_behind {now} {taken} talks = record {
+    input = subst (λ w. Takes w.input now.input taken) greeted talks.input;
+    sinks = talks.sinks ∙ ap (λ w. appended w.sinks (speech.said taken)) greeted ∙ appended_more before.sinks first (speech.said taken);
+  }
+
+  ends_behind : {budget : ℕ} {now : Streams} {taken : List ℕ} (how : Ended) → EndsAs speech budget now taken how → EndsAs (behind first speech) budget now taken how
+  ends_behind ended.AtEnd ends = ends
+  ends_behind ended.AtOver ends =
+      let last = ends.2 in
+      (ends.0, ends.1, record { earlier = last.earlier; piece = last.piece; parts = last.parts; few = last.few; going = last.going })
+  ends_behind ended.AtBudget ends = ends
+
+  talked_behind : {budget : ℕ} {now : Streams} (result : Result Ended TalkFault) → Talked speech budget mid now result → Talked (behind first speech) budget before now result
+  talked_behind (Ok how) t = record { taken = t.taken; talks = talks_behind t.talks; ends = ends_behind how t.ends }
+  talked_behind (Err fault.Input) t = record { taken = t.taken; mid = t.mid; talks = talks_behind t.talks; short = t.short; going = t.going; broken = t.broken }
+  talked_behind (Err (fault.Sink why)) t = record {
+    earlier = t.earlier;
+    mid = t.mid;
+    talks = talks_behind t.talks;
+    going = t.going;
+    piece = t.piece;
+    few = t.few;
+    within = t.within;
+    input = t.input;
+    texts = t.texts;
+    adds = ap (joined first) t.adds ∙ sym (joined_assoc first (speech.said t.earlier) t.texts);
+    stops = t.stops;
+  }
 
 -- what a session gives that stands at its start is what the whole session gives
-pub given_fresh : (setup : Setup) (taken : List ℕ) → given (fresh setup) taken ≡ session setup taken
+given_fresh : (setup : Setup) (taken : List ℕ) → given (fresh setup) taken ≡ session setup taken
 given_fresh setup taken = ap (steps setup start) (onto_line_nothing (lines taken))
 
--- the same of a session that is one at its start
-given_at : (setup : Setup) {s : Standing} → s ≡ fresh setup → (taken : List ℕ) → given s taken ≡ session setup taken
-given_at setup begins taken = ap (λ s. given s taken) begins ∙ given_fresh setup taken
+abbrev greeting : Setup → Texts
+greeting setup = out_text (greeting_of setup.banner)
 
--- the output has the greeting
-abbrev pub greeted_world : Setup → World → World
-greeted_world setup before = record before { sinks = record before.sinks { out = append_known before.sinks.out (greeting_of setup.banner) } }
+speech_is : (setup : Setup) → behind (greeting setup) (speech_from (fresh setup)) ≡ speech_of setup
+speech_is setup =
+    ap (λ (g : List ℕ → Step). record { said = λ taken. joined (greeting setup) (texts_of setup (g taken)); over = λ taken. (g taken).next.over }) (fun_ext (given_fresh setup))
 
--- behind the greeting, what passes to a session is what the whole session talks
-pub passed_talks : (setup : Setup) {before mid now : World} {s new : Standing} → s ≡ fresh setup
-    → mid ≡ greeted_world setup before → Passed mid now s new → Talks setup before now
-passed_talks setup {before} {mid} {now} {s} {new} begins greeted p =
-    let start = given_at setup begins p.taken in
-    record {
-      taken = p.taken;
-      input = ap (λ w. w.input) (sym greeted) ∙ p.input;
-      out = p.took.out ∙ ap (λ w. append_known w.sinks.out (replies_text s.setup (given s p.taken))) greeted
-          ∙ append_known-append before.sinks.out (greeting_of setup.banner) (replies_text s.setup (given s p.taken))
-          ∙ ap (λ u. append_known before.sinks.out (greeting_of setup.banner ++ replies_text u.setup (given s p.taken))) begins
-          ∙ ap (λ g. append_known before.sinks.out (greeting_of setup.banner ++ replies_text setup g)) start;
-      mail = p.took.mail ∙ ap (λ w. append_known w.sinks.mail (records_text (given s p.taken))) greeted ∙ ap (λ g. append_known before.sinks.mail (records_text g)) start;
-      log = p.took.log ∙ ap (λ w. append_known w.sinks.log (log_text (given s p.taken))) greeted ∙ ap (λ g. append_known before.sinks.log (log_text g)) start;
-    }
-
--- and it comes to its end as they say
-ends_talk : (setup : Setup) (budget : ℕ) {mid now : World} {s new : Standing} (begins : s ≡ fresh setup) (p : Passed mid now s new) (how : Ended)
-    → EndsAs budget now p.taken new how → SessionEndsAs setup budget now p.taken how
-ends_talk setup budget begins p ended.AtEnd e = e
-ends_talk setup budget begins p ended.AtOver e =
-    (ap (λ g. g.next.over) (sym (given_at setup begins p.taken)) ∙ ap (λ s. s.over) (sym p.took.state) ∙ e.0, e.1)
-ends_talk setup budget begins p ended.AtBudget e =
-    (e.0, ap (λ g. g.next.over) (sym (given_at setup begins p.taken)) ∙ ap (λ s. s.over) (sym p.took.state) ∙ e.1)
-
-pub serves_talks : (setup : Setup) (budget : ℕ) {before mid now : World} {s new : Standing} (how : Ended) → s ≡ fresh setup
-    → mid ≡ greeted_world setup before → Serves mid now s new budget how → TalksUntil setup budget before now how
-unfolding passed_talks
-serves_talks setup budget how begins greeted v = record {
-  talks = passed_talks setup begins greeted v.passed;
-  ends = ends_talk setup budget begins v.passed how v.ends;
-}
-
--- the same of bytes that broke off before the budget
-pub short_talks : (setup : Setup) (budget : ℕ) {before mid now : World} {s new : Standing} → s ≡ fresh setup
-    → mid ≡ greeted_world setup before → PassedShort mid now s new budget → TalksShort setup budget before now
-unfolding passed_talks
-short_talks setup budget begins greeted p = record { talks = passed_talks setup begins greeted p.passed; short = p.short }
-
--- bytes passed, and then a session was broken off
-pub passed_front : {a b c : World} {s t : Standing} (m n most : ℕ) → PassedCount a b s t m → PassedFront b c t n → m + n ≤ most → PassedFront a c s most
-passed_front {c = c} m n most p q fits = record {
-  taken = p.passed.taken ++ q.taken;
-  within = omega (arith, length-append p.passed.taken q.taken, p.is, q.within, fits);
-  input = p.passed.input ∙ ap (prepend_known p.passed.taken) q.input ∙ prepend_known-append p.passed.taken q.taken c.input;
-  front = front_more p.passed.took q.front;
-}
-
--- behind the greeting
-pub front_talks : (setup : Setup) (budget : ℕ) {before mid now : World} {s : Standing} → s ≡ fresh setup
-    → mid ≡ greeted_world setup before → PassedFront mid now s budget → TalksFront setup budget before now
-front_talks setup budget {before} {mid} {now} {s} begins greeted p =
-    let start = given_at setup begins p.taken in
-    record {
-      taken = p.taken;
-      within = p.within;
-      input = ap (λ w. w.input) (sym greeted) ∙ p.input;
-      out = subst (HoldsFront before.sinks.out now.sinks.out)
-          (ap (λ u. greeting_of setup.banner ++ replies_text u.setup (given s p.taken)) begins ∙ ap (λ g. greeting_of setup.banner ++ replies_text setup g) start)
-          (front_after before.sinks.out mid.sinks.out now.sinks.out (greeting_of setup.banner) (replies_text s.setup (given s p.taken)) (ap (λ w. w.sinks.out) greeted) p.front.out);
-      mail = subst (λ k. HoldsFront k now.sinks.mail (records_text (session setup p.taken))) (ap (λ w. w.sinks.mail) greeted)
-          (subst (λ g. HoldsFront mid.sinks.mail now.sinks.mail (records_text g)) start p.front.mail);
-      log = subst (λ k. HoldsFront k now.sinks.log (log_text (session setup p.taken))) (ap (λ w. w.sinks.log) greeted)
-          (subst (λ g. HoldsFront mid.sinks.log now.sinks.log (log_text g)) start p.front.log);
-    }
-
--- the greeting was broken off
-pub greeting_front : (setup : Setup) (budget : ℕ) (before now : World) → HoldsFront before.sinks.out now.sinks.out (greeting_of setup.banner)
-    → now ≡ record before { sinks = record before.sinks { out = now.sinks.out } } → TalksFront setup budget before now
-unfolding steps
-greeting_front setup budget before now front rest = record {
-  taken = [];
-  within = omega arith;
-  input = ap (λ w. w.input) (sym rest) ∙ sym (prepend_known-nil now.input);
-  out = subst (HoldsFront before.sinks.out now.sinks.out) (sym (append-nil (greeting_of setup.banner))) front;
-  mail = subst (λ k. HoldsFront before.sinks.mail k []) (ap (λ w. w.sinks.mail) (sym rest)) (front_none before.sinks.mail []);
-  log = subst (λ k. HoldsFront before.sinks.log k []) (ap (λ w. w.sinks.log) (sym rest)) (front_none before.sinks.log []);
-}
-
--- nothing passed
-pub front_of_nothing : {before now : World} (s : Standing) (most : ℕ) → now ≡ before → PassedFront before now s most
-front_of_nothing {before} {now} s most same = record {
-  taken = [];
-  within = omega arith;
-  input = ap (λ w. w.input) (sym same) ∙ sym (prepend_known-nil now.input);
-  front = subst (λ w. TookFront before.sinks w.sinks s []) (sym same) (front_of_none before.sinks s []);
-}
+-- the greeting, and then what is said from the start on, are a session
+pub has_session : (setup : Setup) {budget : ℕ} {before mid now : Streams} {s : Standing} (result : Result Ended TalkFault) → mid ≡ record before { sinks = appended before.sinks (greeting setup) }
+    → s ≡ fresh setup → Talked (speech_from s) budget mid now result → HasSession setup budget before now result
+has_session setup {budget} {before} {mid} {now} result greeted begins talked =
+    let from_start = subst (λ x. Talked (speech_from x) budget mid now result) begins talked in
+    by_result result (subst (λ x. Talked x budget before now result) (speech_is setup) (talked_behind (greeting setup) (speech_from (fresh setup)) before mid greeted result from_start))
+  where
+    by_result : (result : Result Ended TalkFault) → Talked (speech_of setup) budget before now result → HasSession setup budget before now result
+    by_result (Ok how) t = t
+    by_result (Err fault.Input) t = t
+    by_result (Err (fault.Sink why)) t = inr t

@@ -1,5 +1,4 @@
 pub mod Nets
-pub mod Opened
 pub mod Opening
 pub mod Profile
 pub mod Refusals

@@ -1,22 +1,23 @@
 -- Which main.cf is refused, and as which: the first that applies of the checks, in their order. Codes and order are postgate's own;
 -- postconf(5), smtpd_relay_restrictions, asks for a restriction that closes the server in the relay or the recipient list; only the relay list
 -- is built, and reject_unauth_destination alone closes it.
-use Rattle.std.specs.Prelude.{ℕ, nat_lt, List, [], Option, None, Some, Result, Ok, Err, is_none, is_some, length, if◌then◌else◌}
+use Rattle.std.specs.Prelude.{ℕ, List, [], Option, None, Some, Result, Ok, Err, is_none, is_some, if◌then◌else◌}
 use Rattle.std.specs.List.{find}
-use Rattle.std.specs.Option.{option_map, option_or}
-use Rattle.pf_base.specs.FileList.{file_limit}
-use Rattle.pf_base.specs.declared.refused.Cause.{Cause}
-use Rattle.pf_base.specs.declared.refused.Cause.TheVariants.{C7, C10, C14, C15}
+use Rattle.std.specs.Option.{option_map, option_map_or, option_or}
+use Rattle.pf_base.specs.declared.refused.Cause.TheVariants.{C7, C14}
 use Rattle.pf_base.specs.declared.refused.ConfFault.{ConfFault}
-use Rattle.pf_base.specs.declared.refused.ConfFault.TheVariants as conf_fault
+use Rattle.pf_base.specs.declared.refused.ConfFault.TheVariants as fault
 use Rattle.pf_base.specs.declared.refused.Refused.{Refused}
 use Rattle.pf_catalogue.specs.Catalogue.{catalogue}
-use Rattle.pf_maincf.specs.Settings.{Conf, conf_of}
+use Rattle.pf_maincf.specs.Settings.{conf_of}
 use Rattle.pf_params.specs.Classes.{class_names, first_refusal}
 use Rattle.pf_params.specs.Parameters.{refusal_of}
 use Rattle.pf_params.specs.Settled.{Settled, settled}
-use Rattle.pf_top.specs.Opening.{items_named, relay_list}
+use Rattle.pf_top.specs.Opening.{items_named, opening_of, relay_list}
 use Rattle.pf_top.specs.Profile.{first_refused}
+use Rattle.pf_tools.specs.Printed.{◌>>=◌}
+use Rattle.pf_tools.specs.Said.{conf_text}
+use Rattle.pf_top.specs.declared.opening.Opening.{Opening}
 use Rattle.pf_top.specs.Values.{relay_of, restriction_of}
 
 -- the parameters and the classes of restrictions, together in byte order of their names
@@ -43,17 +44,18 @@ relay_refusal s items = option_or (word_refusal s items) (closing_refusal s item
 unfoldable pub settings_refusal : Settled → Option Refused
 settings_refusal s = option_or (names_refusal s) (relay_refusal s (items_named s relay_list))
 
--- a main.cf that was read, or the refusal of its text
-abbrev pub conf_refusal : Result Conf ConfFault → Option Refused
-conf_refusal (Ok conf) = settings_refusal (settled conf [])
-conf_refusal (Err (conf_fault.Refused first)) = Some first
-conf_refusal (Err conf_fault.NoMemory) = None
+-- what settings say, or their first refusal
+abbrev pub settings_opened : Settled → Result Opening ConfFault
+settings_opened s = option_map_or (λ first. Err (fault.Refused first)) (settings_refusal s) (Ok (opening_of s))
 
--- a whole file, which the refusal names
-abbrev pub whole_refused : List ℕ → Cause → Refused
-whole_refused file cause = record { file = file; line = 0; cause = cause; name = file }
+-- what the text of a main.cf says, or its first refusal
+abbrev pub text_opened : List ℕ → List ℕ → Result Opening ConfFault
+text_opened file text = do
+  conf ← conf_of file text
+  settings_opened (settled conf [])
 
--- a main.cf of this name that is absent, or above 64 MiB, or whose text is refused
-unfoldable pub file_refusal : List ℕ → Option (List ℕ) → Option Refused
-file_refusal file None = Some (whole_refused file C10)
-file_refusal file (Some text) = if nat_lt file_limit (length text) then Some (whole_refused file C15) else conf_refusal (conf_of file text)
+-- what a main.cf says, or its first refusal, which may be that it is absent or above 64 MiB
+abbrev pub file_opened : List ℕ → Option (List ℕ) → Result Opening ConfFault
+file_opened file bytes = do
+  text ← conf_text file bytes
+  text_opened file text

@@ -1,10 +1,13 @@
--- A session over the input: what is taken, what is written, and how it ends. That the input has a budget is postgate's own.
-use Rattle.std.specs.Prelude.{◌≡◌, ℕ, ◌<◌, ◌≤◌, ◌++◌, true, false, List, Option, Result, OnOk, IsErrOf, length}
-use Rattle.std.specs.Io.KnownBytes.{append_known, prepend_known, IsAtEnd}
-use Rattle.pf_base.specs.Causes.{Rose}
-use Rattle.pf_base.specs.Told.{HoldsFront}
-use Rattle.pf_smtp.specs.Feeding.{Faults, Told, faults, told}
-use Rattle.pf_smtp.specs.Session.{session, replies_text, records_text, log_text}
+-- A session over the input: what is taken, what is written, and how it ends. That the input has a budget, and that the bytes come in pieces, is
+-- postgate's own.
+use Rattle.std.specs.Prelude.{◌≡◌, ◌⊎◌, ℕ, ◌+◌, ◌<◌, ◌≤◌, ◌++◌, Bool, true, false, List, Result, Ok, Err, length}
+use Rattle.std.specs.Io.KnownBytes.{IsAtEnd}
+use Rattle.pf_base.specs.Objects.{Streams, StopsBy, appended, joined, out_text}
+use Rattle.pf_base.specs.Told.{Takes, failed_input}
+use Rattle.pf_base.specs.declared.texts.SinkFault.{SinkFault}
+use Rattle.pf_base.specs.declared.texts.Texts.{Texts}
+use Rattle.pf_smtp.specs.Feeding.{texts_of}
+use Rattle.pf_smtp.specs.Session.{session}
 use Rattle.pf_smtp.specs.Text.{greeting_of}
 use Rattle.pf_smtp.specs.declared.state.Setup.{Setup}
 use Rattle.pf_top.specs.declared.talk.Ended.{Ended}
@@ -12,77 +15,84 @@ use Rattle.pf_top.specs.declared.talk.Ended.TheVariants as ended
 use Rattle.pf_top.specs.declared.talk.TalkFault.{TalkFault}
 use Rattle.pf_top.specs.declared.talk.TalkFault.TheVariants as fault
 
--- what the input and the session's sinks told
-pub record World : Type 0 where
-  pub input : Option (List ℕ)
-  pub sinks : Told
+-- what is said in all for the bytes that were taken, and whether the session is over behind them
+pub record Speech : Type 0 where
+  pub said : List ℕ → Texts
+  pub over : List ℕ → Bool
 
--- the input, the output, the record of messages and the log
-abbrev pub world : Option (List ℕ) → Option (List ℕ) → Option (List ℕ) → Option (List ℕ) → World
-world input out mail log = record { input = input; sinks = told out mail log }
+-- a session: its greeting, and then the texts of its steps
+abbrev pub speech_of : Setup → Speech
+speech_of setup = record {
+  said = λ taken. joined (out_text (greeting_of setup.banner)) (texts_of setup (session setup taken));
+  over = λ taken. (session setup taken).next.over;
+}
 
--- all that a session replies for these bytes
-abbrev pub replies_to : Setup → List ℕ → List ℕ
-replies_to setup taken = greeting_of setup.banner ++ replies_text setup (session setup taken)
+-- the bytes were taken, and all was written that is said for them
+pub record Talks (speech : Speech) (before now : Streams) (taken : List ℕ) : Type 0 where
+  pub input : Takes before.input now.input taken
+  pub sinks : now.sinks ≡ appended before.sinks (speech.said taken)
 
--- all record lines
-abbrev pub records_of : Setup → List ℕ → List ℕ
-records_of setup taken = records_text (session setup taken)
+-- the most bytes of a piece
+abbrev pub piece_limit : ℕ
+piece_limit = 4096
 
--- all log lines
-abbrev pub log_of : Setup → List ℕ → List ℕ
-log_of setup taken = log_text (session setup taken)
+-- the bytes end in a piece before which the session was not over
+pub record HasLastPiece (speech : Speech) (taken : List ℕ) : Type 0 where
+  pub earlier : List ℕ
+  pub piece : List ℕ
+  pub parts : taken ≡ earlier ++ piece
+  pub few : length piece ≤ piece_limit
+  pub going : speech.over earlier ≡ false
 
--- the replies, the record lines and the log lines for the bytes that were taken were written
-pub record Talks (setup : Setup) (before now : World) : Type 0 where
-  pub taken : List ℕ
-  pub input : before.input ≡ prepend_known taken now.input
-  pub out : now.sinks.out ≡ append_known before.sinks.out (replies_to setup taken)
-  pub mail : now.sinks.mail ≡ append_known before.sinks.mail (records_of setup taken)
-  pub log : now.sinks.log ≡ append_known before.sinks.log (log_of setup taken)
-
--- nothing is left, before the budget was taken; the session of these bytes is over; or their number is the budget
-abbrev pub SessionEndsAs : Setup → ℕ → World → List ℕ → Ended → Type 0
-SessionEndsAs setup budget now taken ended.AtEnd = IsAtEnd now.input × (length taken < budget)
-SessionEndsAs setup budget now taken ended.AtOver = ((session setup taken).next.over ≡ true) × (length taken ≤ budget)
-SessionEndsAs setup budget now taken ended.AtBudget = (length taken ≡ budget) × ((session setup taken).next.over ≡ false)
+-- nothing is left, before the budget was taken or the session was over; the session is over with the last piece; or the number of bytes is the budget
+abbrev pub EndsAs : Speech → ℕ → Streams → List ℕ → Ended → Type 0
+EndsAs speech budget now taken ended.AtEnd = IsAtEnd now.input.left × (length taken < budget) × (speech.over taken ≡ false)
+EndsAs speech budget now taken ended.AtOver = (speech.over taken ≡ true) × (length taken ≤ budget) × HasLastPiece speech taken
+EndsAs speech budget now taken ended.AtBudget = (length taken ≡ budget) × (speech.over taken ≡ false)
 
 -- a whole session that may take so many bytes
-pub record TalksUntil (setup : Setup) (budget : ℕ) (before now : World) (how : Ended) : Type 0 where
-  pub talks : Talks setup before now
-  pub ends : SessionEndsAs setup budget now talks.taken how
-
--- a session whose input broke off before the budget was taken
-pub record TalksShort (setup : Setup) (budget : ℕ) (before now : World) : Type 0 where
-  pub talks : Talks setup before now
-  pub short : length talks.taken < budget
-
--- a session that a sink or want of memory broke off: each sink holds a front of what the session gives for the bytes that were taken
-pub record TalksFront (setup : Setup) (budget : ℕ) (before now : World) : Type 0 where
+pub record TalksUntil (speech : Speech) (budget : ℕ) (before now : Streams) (how : Ended) : Type 0 where
   pub taken : List ℕ
-  pub within : length taken ≤ budget
-  pub input : before.input ≡ prepend_known taken now.input
-  pub out : HoldsFront before.sinks.out now.sinks.out (replies_to setup taken)
-  pub mail : HoldsFront before.sinks.mail now.sinks.mail (records_of setup taken)
-  pub log : HoldsFront before.sinks.log now.sinks.log (log_of setup taken)
+  pub talks : Talks speech before now taken
+  pub ends : EndsAs speech budget now taken how
 
--- the counts of faults of the input and of the session's sinks
-pub record Counts : Type 0 where
-  pub input : ℕ
-  pub sinks : Faults
+-- a session that is not over, whose input failed just once, before the budget was taken
+pub record TalksShort (speech : Speech) (budget : ℕ) (before now : Streams) : Type 0 where
+  pub taken : List ℕ
+  pub mid : Streams
+  pub talks : Talks speech before mid taken
+  pub short : length taken < budget
+  pub going : speech.over taken ≡ false
+  pub broken : now ≡ record mid { input = failed_input mid.input }
 
--- of the input, the output, the record of messages and the log
-abbrev pub counts : ℕ → ℕ → ℕ → ℕ → Counts
-counts input out mail log = record { input = input; sinks = faults out mail log }
+-- a session that was not over, with whose next piece a fault of a sink came, or memory was wanting: that piece was taken, and a prefix was written of
+-- what is said for it
+pub record TalksCut (speech : Speech) (budget : ℕ) (before now : Streams) (why : SinkFault) : Type 0 where
+  pub earlier : List ℕ
+  pub mid : Streams
+  pub talks : Talks speech before mid earlier
+  pub going : speech.over earlier ≡ false
+  pub piece : List ℕ
+  pub few : length piece ≤ piece_limit
+  pub within : length earlier + length piece ≤ budget
+  pub input : Takes mid.input now.input piece
+  pub texts : Texts
+  pub adds : speech.said (earlier ++ piece) ≡ joined (speech.said earlier) texts
+  pub stops : StopsBy why mid.sinks now.sinks texts
 
--- a fault comes only where the count of its object rose, and an answer without a fault passed none over
-pub record HasTalkCause {T : Type 0} (before now : Counts) (result : Result T TalkFault) : Type 0 where
-  pub later_input : before.input ≤ now.input
-  pub later_out : before.sinks.out ≤ now.sinks.out
-  pub later_mail : before.sinks.mail ≤ now.sinks.mail
-  pub later_log : before.sinks.log ≤ now.sinks.log
-  pub input : IsErrOf result fault.Input → Rose before.input now.input
-  pub out : IsErrOf result fault.Out → Rose before.sinks.out now.sinks.out
-  pub mail : IsErrOf result fault.Mail → Rose before.sinks.mail now.sinks.mail
-  pub log : IsErrOf result fault.Log → Rose before.sinks.log now.sinks.log
-  pub kept : OnOk result (now ≡ before)
+-- how bytes are talked about
+abbrev pub Talked : Speech → ℕ → Streams → Streams → Result Ended TalkFault → Type 0
+Talked speech budget before now (Ok how) = TalksUntil speech budget before now how
+Talked speech budget before now (Err fault.Input) = TalksShort speech budget before now
+Talked speech budget before now (Err (fault.Sink why)) = TalksCut speech budget before now why
+
+-- the greeting was broken off, and nothing was taken
+pub record GreetsShort (setup : Setup) (before now : Streams) (why : SinkFault) : Type 0 where
+  pub stops : StopsBy why before.sinks now.sinks (out_text (greeting_of setup.banner))
+  pub input : now.input ≡ before.input
+
+-- a session with a client
+abbrev pub HasSession : Setup → ℕ → Streams → Streams → Result Ended TalkFault → Type 0
+HasSession setup budget before now (Ok how) = TalksUntil (speech_of setup) budget before now how
+HasSession setup budget before now (Err fault.Input) = TalksShort (speech_of setup) budget before now
+HasSession setup budget before now (Err (fault.Sink why)) = GreetsShort setup before now why ⊎ TalksCut (speech_of setup) budget before now why

@@ -1,16 +1,15 @@
 //! What main.cf says, where it is accepted.
 ghost use Rattle.std.specs.Prelude.{◌≡◌, [], IfOk, codes};
-ghost use Rattle.pf_maincf.specs.Settings.{conf_of};
+ghost use Rattle.std.specs.Option.{unwrap_or};
+ghost use Rattle.pf_base.specs.Unless.{Unless};
 ghost use Rattle.pf_params.specs.Parameters as parameters;
-ghost use Rattle.pf_top.specs.Opened.{IsOpened};
 ghost use Rattle.pf_top.specs.Opening as opening;
-ghost use Rattle.pf_top.specs.Refusals.{conf_refusal, settings_refusal};
 ghost use Rattle.pf_top.specs.Refusals as refusals;
 ghost use Rattle.pf_top.specs.Values as values;
 
-use crate::refusal::{settings_refusal, whole_refused};
-use crate::values::{host_of, hosts_of, nets_of, relay_of};
-use pf_base::{Bytes, Cause, ConfFault, List, NoMemory, Refused};
+use crate::refusal::settings_refusal;
+use crate::values::{nets_of, relay_of};
+use pf_base::{Bytes, ConfFault, List, NoMemory};
 use pf_catalogue::{Value, param};
 use pf_eval::{PlainItem, PlainNet, PlainPolicy};
 use pf_maincf::MainCf;
@@ -23,13 +22,6 @@ pub struct Opening {
     pub host: Bytes,
     pub banner: Bytes,
     pub policy: PlainPolicy,
-}
-
-/// What became of a main.cf: it is accepted, or this is its first refusal.
-#[derive(Debug, Drop)]
-pub(crate) enum Opened {
-    Accepted(Opening),
-    Refused(Refused),
 }
 
 // What is read of the parameter of a name, where it is not refused.
@@ -82,98 +74,68 @@ pub(crate) fn items_named(
     }
 }
 
-fn destinations_in(alloc: Global, known: &Known) -> Result<Option<List<Bytes>>, NoMemory>
-    ensures { IfOk result (λ hosts. hosts ≡ values.hosts_of (opening.items_named known.now (codes "mydestination"))) }
-{
-    let items = items_named(alloc, known, b"mydestination")?;
-    hosts_of(alloc, items.as_slice())
-}
-
-fn networks_in(alloc: Global, known: &Known) -> Result<Option<List<PlainNet>>, NoMemory>
-    ensures { IfOk result (λ networks. networks ≡ values.nets_of (opening.items_named known.now (codes "mynetworks"))) }
+// The networks, where they have their form.
+fn networks_in(alloc: Global, known: &Known) -> Result<List<PlainNet>, NoMemory>
+    ensures { IfOk result (λ networks. networks ≡ unwrap_or (values.nets_of (opening.items_named known.now (codes "mynetworks"))) []) }
 {
     let items = items_named(alloc, known, b"mynetworks")?;
-    nets_of(alloc, items.as_slice())
+    match nets_of(alloc, items.as_slice())? {
+        Some(networks) => Ok(networks),
+        None => Ok(List::new(alloc)),
+    }
 }
 
-fn relay_in(alloc: Global, known: &Known) -> Result<Option<List<PlainItem>>, NoMemory>
-    ensures { IfOk result (λ relay. relay ≡ values.relay_of (opening.items_named known.now (codes "smtpd_relay_restrictions"))) }
+// The relay list, where it has its form.
+fn relay_in(alloc: Global, known: &Known) -> Result<List<PlainItem>, NoMemory>
+    ensures { IfOk result (λ relay. relay ≡ unwrap_or (values.relay_of (opening.items_named known.now opening.relay_list)) []) }
 {
     let items = items_named(alloc, known, b"smtpd_relay_restrictions")?;
-    relay_of(alloc, items.as_slice())
+    match relay_of(alloc, items.as_slice())? {
+        Some(relay) => Ok(relay),
+        None => Ok(List::new(alloc)),
+    }
 }
 
-// The relay policy, where the values have their forms.
-fn policy_of(alloc: Global, known: &Known) -> Result<Option<PlainPolicy>, NoMemory>
-    ensures { IfOk result (λ policy. policy ≡ opening.policy_of known.now) }
-{
-    let Some(destinations) = destinations_in(alloc, known)? else {
-        return Ok(None);
-    };
-    let Some(networks) = networks_in(alloc, known)? else {
-        return Ok(None);
-    };
-    let Some(relay) = relay_in(alloc, known)? else {
-        return Ok(None);
-    };
-    Ok(Some(PlainPolicy {
-        destinations,
-        networks,
-        relay,
-    }))
-}
-
-// What settings say of a session, where the values have their forms.
+// What settings that are not refused say of a session.
 #[tactic(auto, unfolding(crate::specs::Opening::opening_of))]
-fn opening_of(alloc: Global, known: &Known) -> Result<Option<Opening>, NoMemory>
+fn opening_of(alloc: Global, known: &Known) -> Result<Opening, NoMemory>
     ensures { IfOk result (λ says. says ≡ opening.opening_of known.now) }
 {
-    let name = text_named(alloc, known, b"myhostname")?;
-    let Some(host) = host_of(alloc, name.as_slice())? else {
-        return Ok(None);
+    let policy = PlainPolicy {
+        destinations: items_named(alloc, known, b"mydestination")?,
+        networks: networks_in(alloc, known)?,
+        relay: relay_in(alloc, known)?,
     };
-    let Some(policy) = policy_of(alloc, known)? else {
-        return Ok(None);
-    };
-    let banner = text_named(alloc, known, b"smtpd_banner")?;
-    Ok(Some(Opening {
-        host,
-        banner,
+    Ok(Opening {
+        host: text_named(alloc, known, b"myhostname")?,
+        banner: text_named(alloc, known, b"smtpd_banner")?,
         policy,
-    }))
+    })
 }
 
-fn settings_opened(alloc: Global, known: &Known) -> Result<Opened, NoMemory>
-    ensures { IfOk result (IsOpened (settings_refusal known.now) (opening.opening_of known.now)) }
+// What settings say, or their first refusal.
+fn settings_opened(alloc: Global, known: &Known) -> Result<Opening, ConfFault>
+    ensures { Unless result ConfFault.NoMemory (λ r. r ≡ refusals.settings_opened known.now) }
 {
-    match settings_refusal(alloc, known)? {
-        Some(refusal) => Ok(Opened::Refused(refusal)),
-        None => match opening_of(alloc, known)? {
-            Some(opening) => Ok(Opened::Accepted(opening)),
-            // Settings that no check refuses say something.
-            None => unreachable!(),
-        },
+    let Ok(refusal) = settings_refusal(alloc, known) else {
+        return Err(ConfFault::NoMemory);
+    };
+    if let Some(refusal) = refusal {
+        return Err(ConfFault::Refused(refusal));
+    }
+    match opening_of(alloc, known) {
+        Ok(opening) => Ok(opening),
+        Err(NoMemory) => Err(ConfFault::NoMemory),
     }
 }
 
-/// The refusal of the file itself.
-pub(crate) fn file_refused(alloc: Global, file: &[u8], cause: Cause) -> Result<Opened, NoMemory>
-    ensures { IfOk result (λ opened. opened ≡ Opened.Refused (refusals.whole_refused file.now cause)) }
+/// What a main.cf of this name and text says, or its first refusal.
+pub(crate) fn text_opened(alloc: Global, file: &[u8], text: &[u8]) -> Result<Opening, ConfFault>
+    ensures { Unless result ConfFault.NoMemory (λ r. r ≡ refusals.text_opened file.now text.now) }
 {
-    let refusal = whole_refused(alloc, file, cause)?;
-    Ok(Opened::Refused(refusal))
-}
-
-/// What becomes of a main.cf of this name and text.
-pub(crate) fn text_opened(alloc: Global, file: &[u8], text: &[u8]) -> Result<Opened, NoMemory>
-    ensures { IfOk result (IsOpened (conf_refusal (conf_of file.now text.now)) (opening.conf_opened (conf_of file.now text.now))) }
-{
-    match MainCf::read(alloc, file, text) {
-        Ok(conf) => {
-            let known = Known::new(alloc, &conf, &List::new(alloc))?;
-            settings_opened(alloc, &known)
-        }
-        Err(ConfFault::Refused(refusal)) => Ok(Opened::Refused(refusal)),
-        Err(ConfFault::NoMemory) => Err(NoMemory),
-    }
+    let conf = MainCf::read(alloc, file, text)?;
+    let Ok(known) = Known::new(alloc, &conf, &List::new(alloc)) else {
+        return Err(ConfFault::NoMemory);
+    };
+    settings_opened(alloc, &known)
 }

@@ -16,20 +16,6 @@ use std::alloc::Global;
 // The name of the relay list.
 const RELAY_LIST: &[u8] = b"smtpd_relay_restrictions";
 
-/// The refusal of a whole file.
-pub(crate) fn whole_refused(alloc: Global, file: &[u8], cause: Cause) -> Result<Refused, NoMemory>
-    ensures { IfOk result (λ refusal. refusal ≡ refusals.whole_refused file.now cause) }
-{
-    let name = Bytes::from_slice(alloc, file)?;
-    let file = Bytes::from_slice(alloc, file)?;
-    Ok(Refused {
-        file,
-        line: 0,
-        cause,
-        name,
-    })
-}
-
 // The parameters and the classes of restrictions.
 fn names_refusal(alloc: Global, known: &Known) -> Result<Option<Refused>, NoMemory>
     ensures { IfOk result (λ refusal. refusal ≡ refusals.names_refusal known.now) }

@@ -1,13 +1,14 @@
 //! A session over the input, from the greeting to its end.
-ghost use Rattle.std.specs.Prelude.{◌≡◌, ◌<◌, ◌≤◌, Err, true, false, length, IfOk, OnErr};
+ghost use Rattle.std.specs.Prelude.{◌≡◌, ◌<◌, true, length};
+ghost use Rattle.pf_base.specs.Objects.{sinks, streams};
 ghost use Rattle.pf_smtp.specs.Feeding.{fresh};
 ghost use Rattle.pf_top.specs.Opening.{setup_of};
-ghost use Rattle.pf_top.specs.Talk.{HasTalkCause, TalksFront, TalksShort, TalksUntil, counts, world};
-ghost use Rattle.pf_top.specs.Turns.{AtMost, IsTurn, PassedFront, PassedShort, Serves};
+ghost use Rattle.pf_top.specs.Talk.{HasSession, Talked};
+ghost use Rattle.pf_top.specs.Turns.{IsTurn, speech_from};
 
 use crate::opening::Opening;
-use pf_base::{Failed, Sink, Source};
-use pf_smtp::{Going, Session, SessionFault};
+use pf_base::{Sink, SinkFault, Source};
+use pf_smtp::{Going, Session};
 use std::alloc::Global;
 
 // The most bytes of one read.
@@ -17,10 +18,7 @@ const PIECE: u64 = 4096;
 #[derive(Clone, Copy, Debug, PartialEq, Eq)]
 pub(crate) enum TalkFault {
     Input,
-    Out,
-    Mail,
-    Log,
-    NoMemory,
+    Sink(SinkFault),
 }
 
 /// What a read gave: the end of the input, or so many bytes, after which the session goes on or is over.
@@ -50,15 +48,10 @@ fn take_turn<S: Source, O: Sink, M: Sink, J: Sink>(
     log: &mut J,
 ) -> Result<Turn, TalkFault>
     requires { 0 < length buf.old }
-    ensures turn { IfOk result (IsTurn (world (S.left input.old) (O.written out.old) (M.written mail.old) (J.written log.old))
-        (world (S.left input.new) (O.written out.new) (M.written mail.new) (J.written log.new)) session.old session.new) }
-    ensures progress { IfOk result (AtMost (length buf.old)) }
-    ensures front { OnErr result (PassedFront (world (S.left input.old) (O.written out.old) (M.written mail.old) (J.written log.old))
-        (world (S.left input.new) (O.written out.new) (M.written mail.new) (J.written log.new)) session.old (length buf.old)) }
-    ensures failed { result ≡ Err TalkFault.Input → (world (S.left input.new) (O.written out.new) (M.written mail.new) (J.written log.new) ≡ world (S.left input.old) (O.written out.old) (M.written mail.old) (J.written log.old)) × (session.new ≡ session.old) }
-    ensures mail { M.written mail.new ≡ M.written mail.old }
-    ensures cause { HasTalkCause (counts (S.faults input.old) (O.faults out.old) (M.faults mail.old) (J.faults log.old))
-        (counts (S.faults input.new) (O.faults out.new) (M.faults mail.new) (J.faults log.new)) result }
+    requires { session.old.begun ≡ true }
+    ensures turn { IsTurn (streams (S.told input.old) (sinks (O.told out.old) (M.told mail.old) (J.told log.old)))
+        (streams (S.told input.new) (sinks (O.told out.new) (M.told mail.new) (J.told log.new))) session.old.standing session.new.standing (length buf.old) result }
+    ensures begun { session.new.begun ≡ true }
 {
     let Ok(count) = input.read(buf) else {
         return Err(TalkFault::Input);
@@ -69,14 +62,11 @@ fn take_turn<S: Source, O: Sink, M: Sink, J: Sink>(
     match session.feed(alloc, &buf[..count], out, mail, log) {
         Ok(Going::More) => Ok(Turn::More(count as u64)),
         Ok(Going::Over) => Ok(Turn::Over(count as u64)),
-        Err(SessionFault::Out) => Err(TalkFault::Out),
-        Err(SessionFault::Mail) => Err(TalkFault::Mail),
-        Err(SessionFault::Log) => Err(TalkFault::Log),
-        Err(SessionFault::NoMemory) => Err(TalkFault::NoMemory),
+        Err(fault) => Err(TalkFault::Sink(fault)),
     }
 }
 
-// Feeds the input to a session that has not begun, to its end, to the end of the session, or up to a budget of bytes.
+// Feeds the input to a session that has said its greeting, to its end, to the end of the session, or up to a budget of bytes.
 fn serve<S: Source, O: Sink, M: Sink, J: Sink>(
     alloc: Global,
     session: &mut Session,
@@ -86,25 +76,21 @@ fn serve<S: Source, O: Sink, M: Sink, J: Sink>(
     mail: &mut M,
     log: &mut J,
 ) -> Result<Ended, TalkFault>
-    requires { session.old ≡ fresh session.old.setup }
-    ensures serves { IfOk result (Serves (world (S.left input.old) (O.written out.old) (M.written mail.old) (J.written log.old))
-        (world (S.left input.new) (O.written out.new) (M.written mail.new) (J.written log.new)) session.old session.new budget) }
-    ensures failed { result ≡ Err TalkFault.Input → PassedShort (world (S.left input.old) (O.written out.old) (M.written mail.old) (J.written log.old))
-        (world (S.left input.new) (O.written out.new) (M.written mail.new) (J.written log.new)) session.old session.new budget }
-    ensures front { OnErr result (PassedFront (world (S.left input.old) (O.written out.old) (M.written mail.old) (J.written log.old))
-        (world (S.left input.new) (O.written out.new) (M.written mail.new) (J.written log.new)) session.old budget) }
-    ensures mail { M.written mail.new ≡ M.written mail.old }
-    ensures cause { HasTalkCause (counts (S.faults input.old) (O.faults out.old) (M.faults mail.old) (J.faults log.old))
-        (counts (S.faults input.new) (O.faults out.new) (M.faults mail.new) (J.faults log.new)) result }
+    requires { session.old.begun ≡ true }
+    requires { session.old.standing ≡ fresh session.old.standing.setup }
+    ensures { Talked (speech_from session.old.standing) budget
+        (streams (S.told input.old) (sinks (O.told out.old) (M.told mail.old) (J.told log.old)))
+        (streams (S.told input.new) (sinks (O.told out.new) (M.told mail.new) (J.told log.new))) result }
 {
     let mut buf = [0u8; 4096];
     let mut taken = 0;
     'turns: while taken < budget {
         let room = (budget - taken).min(PIECE) as usize;
-        match take_turn(alloc, session, &mut buf[..room], input, out, mail, log)? {
-            Turn::End => return Ok(Ended::AtEnd),
-            Turn::More(count) => taken += count,
-            Turn::Over(_) => return Ok(Ended::AtOver),
+        match take_turn(alloc, session, &mut buf[..room], input, out, mail, log) {
+            Ok(Turn::End) => return Ok(Ended::AtEnd),
+            Ok(Turn::More(count)) => taken += count,
+            Ok(Turn::Over(_)) => return Ok(Ended::AtOver),
+            Err(fault) => return Err(fault),
         }
     }
     Ok(Ended::AtBudget)
@@ -121,22 +107,13 @@ pub(crate) fn talk<S: Source, O: Sink, M: Sink, J: Sink>(
     mail: &mut M,
     log: &mut J,
 ) -> Result<Ended, TalkFault>
-    ensures talks { IfOk result (TalksUntil (setup_of opening client) budget (world (S.left input.old) (O.written out.old) (M.written mail.old) (J.written log.old))
-        (world (S.left input.new) (O.written out.new) (M.written mail.new) (J.written log.new))) }
-    ensures failed { result ≡ Err TalkFault.Input → TalksShort (setup_of opening client) budget (world (S.left input.old) (O.written out.old) (M.written mail.old) (J.written log.old))
-        (world (S.left input.new) (O.written out.new) (M.written mail.new) (J.written log.new)) }
-    ensures front { OnErr result (TalksFront (setup_of opening client) budget (world (S.left input.old) (O.written out.old) (M.written mail.old) (J.written log.old))
-        (world (S.left input.new) (O.written out.new) (M.written mail.new) (J.written log.new))) }
-    ensures mail { M.written mail.new ≡ M.written mail.old }
-    ensures cause { HasTalkCause (counts (S.faults input.old) (O.faults out.old) (M.faults mail.old) (J.faults log.old))
-        (counts (S.faults input.new) (O.faults out.new) (M.faults mail.new) (J.faults log.new)) result }
+    ensures { HasSession (setup_of opening client) budget
+        (streams (S.told input.old) (sinks (O.told out.old) (M.told mail.old) (J.told log.old)))
+        (streams (S.told input.new) (sinks (O.told out.new) (M.told mail.new) (J.told log.new))) result }
 {
     let mut session = Session::new(alloc, opening.host, opening.banner, opening.policy, client);
     match session.greet(alloc, out) {
         Ok(()) => serve(alloc, &mut session, budget, input, out, mail, log),
-        Err(SessionFault::Out) => Err(TalkFault::Out),
-        Err(SessionFault::Mail) => Err(TalkFault::Mail),
-        Err(SessionFault::Log) => Err(TalkFault::Log),
-        Err(SessionFault::NoMemory) => Err(TalkFault::NoMemory),
+        Err(fault) => Err(TalkFault::Sink(fault)),
     }
 }

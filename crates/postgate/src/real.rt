@@ -1,5 +1,5 @@
 //! The real objects outside: streams, a file that is made at its first write, and files under their names. They tell
-//! contracts nothing of their content, and count their faults.
+//! contracts nothing of their content, and count their faults, the bytes that were read, and the reads of files.
 ghost use Rattle.std.specs.Prelude.{◌≡◌, None, IfOk};
 ghost use Rattle.std.specs.Io.{ReadsAtMost};
 
@@ -14,23 +14,29 @@ use std::{fs, io};
 #[derive(Drop)]
 pub struct Reading<R: Drop> {
     reader: R,
+    given: u64,
     faults: u64,
 }
 
 impl<R: Drop> Reading<R> {
     pub fn new(reader: R) -> Reading<R> {
-        Reading { reader, faults: 0 }
+        Reading {
+            reader,
+            given: 0,
+            faults: 0,
+        }
     }
 }
 
 impl<R: Read + Drop> Source for Reading<R> {
-    ghost left = { λ _. None };
-
-    ghost faults = { λ source. source.faults };
+    ghost told = { λ source. record { left = None; given = source.given; faults = source.faults } };
 
     fn read(&mut self, buf: &mut [u8]) -> Result<usize, Failed> {
         match self.reader.read(buf) {
-            Ok(count) => Ok(count),
+            Ok(count) => {
+                self.given = self.given.saturating_add(count as u64);
+                Ok(count)
+            }
             Err(_) => {
                 self.faults = self.faults.saturating_add(1);
                 Err(Failed)
@@ -53,9 +59,7 @@ impl<W: Drop> Writing<W> {
 }
 
 impl<W: Write + Drop> Sink for Writing<W> {
-    ghost written = { λ _. None };
-
-    ghost faults = { λ sink. sink.faults };
+    ghost told = { λ sink. record { written = None; faults = sink.faults } };
 
     fn write(&mut self, piece: &[u8]) -> Result<(), OuterFault> {
         match self.writer.write_all(piece) {
@@ -104,9 +108,7 @@ impl<'a> FileSink<'a> {
 }
 
 impl Sink for FileSink<'_> {
-    ghost written = { λ _. None };
-
-    ghost faults = { λ sink. sink.faults };
+    ghost told = { λ sink. record { written = None; faults = sink.faults } };
 
     fn write(&mut self, piece: &[u8]) -> Result<(), OuterFault> {
         match self.write_file(piece) {
@@ -123,12 +125,17 @@ impl Sink for FileSink<'_> {
 #[derive(Drop)]
 pub struct RealFiles<'a> {
     rt: &'a HostRuntime,
+    reads: u64,
     faults: u64,
 }
 
 impl<'a> RealFiles<'a> {
     pub fn new(rt: &'a HostRuntime) -> RealFiles<'a> {
-        RealFiles { rt, faults: 0 }
+        RealFiles {
+            rt,
+            reads: 0,
+            faults: 0,
+        }
     }
 
     fn read_some(&self, name: &str, at: u64, buf: &mut [u8]) -> io::Result<usize>
@@ -201,9 +208,7 @@ impl<'a> RealFiles<'a> {
 }
 
 impl Files for RealFiles<'_> {
-    ghost content = { λ _. None };
-
-    ghost faults = { λ files. files.faults };
+    ghost told = { λ files. record { content = None; reads = files.reads; faults = files.faults } };
 
     fn size(&mut self, name: &str) -> Result<Option<u64>, Failed> {
         match fs::metadata(self.rt, name) {
@@ -217,6 +222,7 @@ impl Files for RealFiles<'_> {
     }
 
     fn read_at(&mut self, name: &str, at: u64, buf: &mut [u8]) -> Result<usize, Failed> {
+        self.reads = self.reads.saturating_add(1);
         match self.read_some(name, at, buf) {
             Ok(count) => Ok(count),
             Err(_) => {

@@ -70,7 +70,7 @@ const TABLE: &[(&str, &str, &str, &str)] = &[
     (
         "smtpd_banner = a  b\n\t c \n",
         "",
-        "a  b\t c",
+        "a  b? c",
         "mx.example.com",
     ),
     ("smtpd_banner = {, } }\n", "", "{, } }", "mx.example.com"),

@@ -1,10 +1,10 @@
-use Rattle.pf_tools.proofs.RunLaws.{runs_short, runs_through}
+use Rattle.pf_tools.proofs.RunLaws.{runs, runs_short}
 use Rattle.pf_tools.proofs.top.postconf.Goals as goal
 
-pub returns-in-Ok-say-clause-through : goal.returns-in-Ok-say-clause-through
-returns-in-Ok-say-clause-through g c = λ through.
-    runs_through c.args.words.now _ _ c.in-Ok.report c.in-Ok.ensures.ok _ _ _ _ c.ending_status.result c.ending_status.ensures c.in-Ok-say.ensures.out c.in-Ok-say.ensures.log
+pub returns-in_default : goal.returns-in_default
+returns-in_default g c = λ input mail. runs_short c.args.words.now _ _ input mail _ _ c.in_default.ensures.err c.gather.ensures.same
 
-pub returns-clause-cut : goal.returns-clause-cut
-returns-clause-cut g c = λ cut. runs_short c.args.words.now _ _ c.in-Ok.report c.in-Ok.ensures.ok _ _ _ _ c.in-Err.ensures.out_front c.in-Err.ensures.log_front
-    (λ output log. let done = c.in-Err.ensures.nothing output log in cc)
+pub returns : goal.returns
+returns g c = λ input mail.
+    runs c.args.words.now _ _ input mail _ _ _ _ c.in-Ok.report c.in-Ok.ensures.ok c.say.result c.status_behind.result c.status_behind.ensures (c.say.ensures.says mail)
+    c.say.ensures.no_output c.say.ensures.nothing c.in-Ok.ensures.output c.in-Ok.ensures.same

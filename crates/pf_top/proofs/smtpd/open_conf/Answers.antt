@@ -1,10 +1,14 @@
-use Rattle.pf_top.proofs.FileLemmas.{named_told, no_text_told}
+use Rattle.pf_tools.proofs.FileLaws.{goes_through}
+use Rattle.pf_tools.specs.Course.{bytes_in}
+use Rattle.pf_tools.specs.Said.{conf_text}
+use Rattle.pf_top.specs.Refusals.{text_opened}
 use Rattle.pf_top.proofs.smtpd.open_conf.Goals as goal
 
 pub returns-in-Ok-clause-told : goal.returns-in-Ok-clause-told
 returns-in-Ok-clause-told g c = λ all told.
-    named_told c.args.file.now all c.open_named.result c.in-Ok.ensures.cases.1 (rw c.in-Ok.ensures.cases.0 at (c.open_named.ensures.told all told))
+    let opened = rw c.as_slice.ensures at c.read_opened.ensures.told in
+    rw (c.in-Ok.ensures.told all told) opened
 
 pub returns-in-Err-clause-told : goal.returns-in-Err-clause-told
 returns-in-Err-clause-told g c = λ all told.
-    no_text_told c.args.file.now all c.file_refused.result c.or_fault.result c.in-Err.ensures.cases.0 c.file_refused.ensures c.or_fault.ensures.same
+    goes_through (conf_text c.args.file.now (bytes_in all c.args.file.now)) (text_opened c.args.file.now) c.in-Err.fault (c.in-Err.ensures.told all told)

@@ -1,53 +1,39 @@
-use Rattle.std.proofs.Common.{List, Option, ℕ, Err, ap, sym, ◌∙◌, inl, inr, refl}
-use Rattle.pf_base.specs.Refusal.{refusal_line}
-use Rattle.pf_top.specs.Talk.{world}
-use Rattle.pf_top.proofs.RunLemmas.{budget_is, done_is, input_is, is_refused, opens, says_nothing}
+use Rattle.std.proofs.Common.{Err, ap, refl}
+use Rattle.pf_top.specs.Smtpd.{Course as course}
 use Rattle.pf_top.proofs.smtpd.run_smtpd.Goals as goal
 
-pub returns-in_default-clause-cut : goal.returns-in_default-clause-cut
-returns-in_default-clause-cut g c = λ cut. says_nothing c.args.words.now _ _
+pub returns-in_default : goal.returns-in_default
+returns-in_default g c = record { course = course.starves; status_is = refl; leaves = ((refl, refl), refl) }
 
-pub returns-in-Ok-Refused-clause-refused : goal.returns-in-Ok-Refused-clause-refused
-returns-in-Ok-Refused-clause-refused g c = λ status. record {
-  refused = is_refused c.args.words.now _ c.as_slice-file.result.now c.in-Ok-Refused.refusal _ (c.as_slice-file.ensures ∙ c.in-Ok.ensures) c.in-Ok-Refused.field-0-is c.in-Ok-Refused.ensures.told;
-  said = ap (λ (log : Option (List ℕ)). world (g.S.Source.left c.args.input.now) (g.O.Sink.written c.args.out.now) (g.M.Sink.written c.args.mail.now) log) (rw c.in-Ok-Refused.refusal-is at c.say_refused.ensures.said status);
-}
+pub returns-in-Ok : goal.returns-in-Ok
+returns-in-Ok g c =
+    let told = rw (c.as_slice-file.ensures, c.in-Ok.ensures) at c.in-Ok-open_conf.ensures.told in
+    record {
+      course = course.talks c.in-Ok-open_conf.opening c.talk.result;
+      status_is = c.talk_status.ensures;
+      leaves = (told, c.in-Ok-open_conf.ensures.kept (λ e. cc), c.talk.ensures);
+    }
 
-pub returns-in-Ok-Refused-clause-cut : goal.returns-in-Ok-Refused-clause-cut
-returns-in-Ok-Refused-clause-cut g c = λ cut. inr (record {
-  line = refusal_line c.in-Ok-Refused.refusal;
-  is = inl (is_refused c.args.words.now _ c.as_slice-file.result.now c.in-Ok-Refused.refusal _ (c.as_slice-file.ensures ∙ c.in-Ok.ensures) c.in-Ok-Refused.field-0-is c.in-Ok-Refused.ensures.told, refl);
-  front = rw c.in-Ok-Refused.refusal-is at c.say_refused.ensures.front;
-  rest = refl;
-})
+pub returns-in-Err-Refused : goal.returns-in-Err-Refused
+returns-in-Err-Refused g c =
+    let is = c.in-Err-Refused.field-0-is in
+    let told = rw (is, c.as_slice-file.ensures, c.in-Ok.ensures) at c.in-Err-Refused.ensures.told in
+    record {
+      course = course.refuses c.in-Err-Refused.refusal c.say_refused.result;
+      status_is = c.status_behind.ensures;
+      leaves = (told, c.in-Err-Refused.ensures.kept (λ e. cc), record { says = c.say_refused.ensures _ _; input = refl });
+    }
 
-pub returns-in-Err-NoMemory-clause-cut : goal.returns-in-Err-NoMemory-clause-cut
-returns-in-Err-NoMemory-clause-cut g c = λ cut. says_nothing c.args.words.now _ _
+pub returns-in-Err-Failed : goal.returns-in-Err-Failed
+returns-in-Err-Failed g c =
+    let says = rw (c.as_slice-file.ensures, c.in-Ok.ensures) at (c.say_unread.ensures (g.O.Sink.told c.args.out.now) (g.M.Sink.told c.args.mail.now)) in
+    record {
+      course = course.unread c.say_unread.result;
+      status_is = c.status_behind-in-Err-Failed.ensures;
+      leaves = (c.in-Err-Failed.ensures.failed (ap Err c.in-Err-Failed.field-0-is), record { says = says; input = refl });
+    }
 
-pub returns-in-Ok-talk-clause-done : goal.returns-in-Ok-talk-clause-done
-returns-in-Ok-talk-clause-done g c = λ done. record {
-  opens = opens c.args.words.now _ c.as_slice-file.result.now c.in-Ok-Accepted.opening _ (c.as_slice-file.ensures ∙ c.in-Ok.ensures) c.in-Ok-Accepted.field-0-is c.in-Ok-Accepted.ensures.told;
-  how = c.in-Ok-talk.ended;
-  ended = done_is c.in-Ok-talk.ended (sym c.ended_status.ensures ∙ done);
-  talks = rw c.in-Ok-Accepted.opening-is at c.in-Ok-talk.ensures.talks;
-}
-
-pub returns-in-Ok-talk-clause-budget : goal.returns-in-Ok-talk-clause-budget
-returns-in-Ok-talk-clause-budget g c = λ done. record {
-  opens = opens c.args.words.now _ c.as_slice-file.result.now c.in-Ok-Accepted.opening _ (c.as_slice-file.ensures ∙ c.in-Ok.ensures) c.in-Ok-Accepted.field-0-is c.in-Ok-Accepted.ensures.told;
-  how = c.in-Ok-talk.ended;
-  ended = budget_is c.in-Ok-talk.ended (sym c.ended_status.ensures ∙ done);
-  talks = rw c.in-Ok-Accepted.opening-is at c.in-Ok-talk.ensures.talks;
-}
-
-pub returns-clause-broken : goal.returns-clause-broken
-returns-clause-broken g c = λ broken. record {
-  opens = opens c.args.words.now _ c.as_slice-file.result.now c.in-Ok-Accepted.opening _ (c.as_slice-file.ensures ∙ c.in-Ok.ensures) c.in-Ok-Accepted.field-0-is c.in-Ok-Accepted.ensures.told;
-  talks = rw c.in-Ok-Accepted.opening-is at c.in-Err.ensures.failed (ap Err (input_is c.in-Err.fault (sym c.fault_status.ensures ∙ broken)));
-}
-
-pub returns-clause-cut : goal.returns-clause-cut
-returns-clause-cut g c = λ cut. inl (record {
-  opens = opens c.args.words.now _ c.as_slice-file.result.now c.in-Ok-Accepted.opening _ (c.as_slice-file.ensures ∙ c.in-Ok.ensures) c.in-Ok-Accepted.field-0-is c.in-Ok-Accepted.ensures.told;
-  talks = rw c.in-Ok-Accepted.opening-is at c.in-Err.ensures.front;
-})
+pub returns : goal.returns
+returns g c =
+    let is = c.in-Err-NoMemory.field-0-is in
+    record { course = course.starves; status_is = refl; leaves = (c.in-Err-NoMemory.ensures.kept (λ e. cc), refl) }

@@ -1,77 +1,43 @@
-use Rattle.std.proofs.Common.{length-take, ap, ◌∙◌, refl, arith}
-use Rattle.pf_top.specs.Talk.{world}
-use Rattle.pf_top.proofs.TalkLemmas.{count_more, ends_here, passed_front, passed_none, short_here}
-use Rattle.std.specs.Prelude.{Result, Ok, Err}
-use Rattle.std.proofs.lemmas.Result.{err_from_is_err_and}
-use Rattle.pf_top.specs.declared.talk.Ended.{Ended}
-use Rattle.pf_top.specs.declared.talk.TalkFault.{TalkFault}
-use Rattle.pf_top.specs.declared.talk.Turn.{Turn}
-use Rattle.pf_top.specs.declared.talk.Turn.TheVariants.{End}
+use Rattle.std.proofs.Common.{length-take, ap, arith}
+use Rattle.pf_base.specs.Objects.{sinks, streams}
+use Rattle.pf_top.proofs.TalkLemmas.{budget_here, cut_here, ends_here, over_here, passed_more, passed_none, short_here, talked_fault}
 use Rattle.pf_top.proofs.talk.serve.Goals as goal
 
 pub turns-init : goal.turns-init
 turns-init g c = record {
-  passed = rw c.requires (passed_none (world (g.S.Source.left c.args.input.now) (g.O.Sink.written c.args.out.now) (g.M.Sink.written c.args.mail.now) (g.J.Sink.written c.args.log.now)) c.args.session.now.setup);
-  goes_on = ap (λ s. s.state.over) c.requires;
+  passed = rw c.requires-2 (passed_none (streams (g.S.Source.told c.args.input.now) (sinks (g.O.Sink.told c.args.out.now) (g.M.Sink.told c.args.mail.now) (g.J.Sink.told c.args.log.now))) c.args.session.now.standing.setup);
+  begun = c.requires;
+  going = ap (λ s. s.state.over) c.requires-2;
   within = omega arith;
-  input = refl;
-  out = refl;
-  mail = refl;
-  record_kept = refl;
-  log = refl;
 }
 
 pub turns-preserved : goal.turns-preserved
 turns-preserved g c =
-    let turn = rw c.in-More.is at c.in_ok-take_turn.ensures.turn in
-    let progress = rw c.in-More.is at c.in_ok-take_turn.ensures.progress in
-    let kept = c.in_ok-take_turn.ensures.cause.kept in
-    let i = c.turns.invariant in
+    let turn = rw c.in-Ok-More.field-0-is at c.in-Ok-More.ensures.turn in
     record {
-      passed = count_more i.passed turn.0;
-      goes_on = turn.1;
-      within = omega (arith, progress.1, length-take c.min-room.result c.turns.buf, c.min-room.ensures);
-      input = ap (λ k. k.input) kept ∙ i.input;
-      out = ap (λ k. k.sinks.out) kept ∙ i.out;
-      mail = ap (λ k. k.sinks.mail) kept ∙ i.mail;
-      record_kept = c.in_ok-take_turn.ensures.mail ∙ i.record_kept;
-      log = ap (λ k. k.sinks.log) kept ∙ i.log;
+      passed = passed_more c.turns.invariant.passed turn.0;
+      begun = c.in-Ok-More.ensures.begun;
+      going = turn.2.2;
+      within = omega (arith, turn.2.1, length-take c.min-room.result c.turns.buf, c.min-room.ensures);
     }
 
-pub returns-in-Over-clause-serves : goal.returns-in-Over-clause-serves
-returns-in-Over-clause-serves g c =
-    let turn = rw c.in-Over.is at c.in_ok-take_turn.ensures.turn in
-    let progress = rw c.in-Over.is at c.in_ok-take_turn.ensures.progress in
-    let p = count_more c.turns.invariant.passed turn.0 in
-    record {
-      passed = p.passed;
-      ends = (turn.1, omega (arith, p.is, progress.1, length-take c.min-room.result c.turns.buf, c.min-room.ensures, c.turns-test.true));
-    }
+pub returns-in-Ok-End : goal.returns-in-Ok-End
+returns-in-Ok-End g c =
+    let turn = rw c.in-Ok-End.field-0-is at c.in-Ok-End.ensures.turn in
+    ends_here turn.0 turn.2 c.turns.invariant.going c.turns.invariant.passed c.turns-test.true
 
--- a fault of the loop as one of its turn
-abbrev as_turn : Result Ended TalkFault → Result Turn TalkFault
-as_turn (Ok ended) = Ok End
-as_turn (Err fault) = Err fault
+pub returns-in-Ok-Over : goal.returns-in-Ok-Over
+returns-in-Ok-Over g c =
+    let turn = rw c.in-Ok-Over.field-0-is at c.in-Ok-Over.ensures.turn in
+    over_here c.args.budget c.turns.invariant.going turn.2 c.turns.invariant.passed turn.0
+    (omega (arith, turn.1, length-take c.min-room.result c.turns.buf, c.min-room.ensures))
+    (omega (arith, turn.1, length-take c.min-room.result c.turns.buf, c.min-room.ensures, c.turns-test.true))
 
-pub returns-in_err-take_turn-clause-failed : goal.returns-in_err-take_turn-clause-failed
-returns-in_err-take_turn-clause-failed g c =
-    let p = err_from_is_err_and c.from_residual.result c.from_residual.ensures.1 in
-    rw (p.1, p.2) (λ failed.
-    let same = c.in_err-take_turn.ensures.failed (ap as_turn failed) in
-    short_here same.0 same.1 c.turns.invariant.passed c.turns-test.true)
+pub returns-in-Err : goal.returns-in-Err
+returns-in-Err g c =
+    talked_fault c.in-Err.fault c.turns.invariant.going c.turns.invariant.passed c.in-Err.ensures.turn c.turns-test.true
+    (omega (arith, length-take c.min-room.result c.turns.buf, c.min-room.ensures))
+    (omega (arith, length-take c.min-room.result c.turns.buf, c.min-room.ensures, c.turns-test.true))
 
-pub returns-in_err-take_turn-clause-front : goal.returns-in_err-take_turn-clause-front
-returns-in_err-take_turn-clause-front g c =
-    let p = err_from_is_err_and c.from_residual.result c.from_residual.ensures.1 in
-    rw p.1 (passed_front _ _ _ c.turns.invariant.passed c.in_err-take_turn.ensures.front
-    (omega (arith, length-take c.min-room.result c.turns.buf, c.min-room.ensures, c.turns-test.true)))
-
-pub returns-clause-serves : goal.returns-clause-serves
-returns-clause-serves g c =
-    let i = c.turns.invariant in
-    record { passed = i.passed.passed; ends = (i.passed.is ∙ omega (arith, i.within, c.turns-test.false), i.goes_on) }
-
-pub returns-in-End-clause-serves : goal.returns-in-End-clause-serves
-returns-in-End-clause-serves g c =
-    let turn = rw c.in-End.is at c.in_ok-take_turn.ensures.turn in
-    ends_here turn.0 turn.1 turn.2 c.turns.invariant.passed c.turns-test.true
+pub returns : goal.returns
+returns g c = budget_here c.turns.invariant.going c.turns.invariant.passed (omega (arith, c.turns.invariant.within, c.turns-test.false))

@@ -1,40 +1,27 @@
-use Rattle.std.proofs.Common.{refl}
-use Rattle.pf_top.proofs.CommandLemmas.{postconf_as, postconf_nothing, same_postconf, same_smtpd, smtpd_as, smtpd_nothing}
+use Rattle.std.proofs.Common.{sym, refl, ap, subst, ◌∙◌}
+use Rattle.pf_base.specs.Objects.{objects}
+use Rattle.pf_top.proofs.RunLemmas.{nothing_left, postconf_left, smtpd_left, unformed_left}
 use Rattle.pf_top.proofs.top.run.Goals as goal
 
-pub returns-in-Ok-Some-Smtpd-clause-smtpd : goal.returns-in-Ok-Some-Smtpd-clause-smtpd
-returns-in-Ok-Some-Smtpd-clause-smtpd g c = λ said is.
+pub returns-in-Ok-Some-Smtpd : goal.returns-in-Ok-Some-Smtpd
+returns-in-Ok-Some-Smtpd g c =
     let read = c.in-Ok-Some-Smtpd in
-    let left = c.run_smtpd.ensures in
-    smtpd_as (same_smtpd read.field-0 _ read.field-0-0 read.words said read.field-0-is read.field-0-0-is read.ensures.is is) (record {
-      done = left.done;
-      budget = left.budget;
-      broken = left.broken;
-      refused = left.refused;
-      unread = left.unread;
-      cut = left.cut;
-      complete = left.complete;
-      mail = left.mail;
-      files = left.content;
-      known = left.known;
-    })
+    smtpd_left read.ensures.is read.field-0-is read.field-0-0-is c.run_smtpd.ensures
 
-pub returns-in-Ok-Some-Postconf-clause-postconf : goal.returns-in-Ok-Some-Postconf-clause-postconf
-returns-in-Ok-Some-Postconf-clause-postconf g c = λ said is.
+pub returns-in-Ok-Some-Postconf : goal.returns-in-Ok-Some-Postconf
+returns-in-Ok-Some-Postconf g c =
     let read = c.in-Ok-Some-Postconf in
-    let left = c.postconf.ensures in
-    postconf_as (same_postconf read.field-0 _ read.field-0-0 read.words said read.field-0-is read.field-0-0-is read.ensures.is is) (record {
-      through = left.through;
-      cut = left.cut;
-      complete = left.complete;
-      content = left.content;
-      output = λ edit. (left.output edit).0;
-      rest = (refl, refl);
-      known = left.known;
+    postconf_left read.ensures.is read.field-0-is read.field-0-0-is (c.postconf.ensures (g.S.Source.told c.args.input.now) (g.M.Sink.told c.args.mail.now))
+
+pub returns-in-Ok-None : goal.returns-in-Ok-None
+returns-in-Ok-None g c =
+    let read = c.in-Ok-None in
+    unformed_left read.ensures.is read.field-0-is (record {
+      said = c.say_usage.result;
+      status_is = c.status_behind.ensures;
+      says = record { says = c.say_usage.ensures (g.O.Sink.told c.args.out.now) (g.M.Sink.told c.args.mail.now); input = refl };
+      files = refl;
     })
 
-pub returns-in-Err-clause-smtpd : goal.returns-in-Err-clause-smtpd
-returns-in-Err-clause-smtpd g c = λ said is. smtpd_nothing said _
-
-pub returns-in-Err-clause-postconf : goal.returns-in-Err-clause-postconf
-returns-in-Err-clause-postconf g c = λ said is. postconf_nothing said _
+pub returns-in-Err : goal.returns-in-Err
+returns-in-Err g c = nothing_left _ (objects (g.S.Source.told c.args.input.now) (g.O.Sink.told c.args.out.now) (g.M.Sink.told c.args.mail.now) (g.J.Sink.told c.args.log.now) (g.F.Files.told c.args.files.now))
