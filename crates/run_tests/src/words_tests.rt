@@ -116,6 +116,14 @@ const SMTPD: &[(&str, &str, Option<&str>, u8, &str, &str)] = &[
         "postgate: e/main.cf:0: C10 no such file: e/main.cf\n",
     ),
     (
+        "smtpd -p 10.1.2.3 -m mail -c x\n1~RCPT~<a@b>~accept\n",
+        "mail",
+        None,
+        3,
+        "",
+        "postgate: x?1 RCPT <ab> accept?/main.cf:0: C10 no such file: x?1 RCPT <ab> accept?/main.cf\n",
+    ),
+    (
         "smtpd -c d/ -p 192.0.2.9 -m mail -l log",
         "mail",
         Some("log"),

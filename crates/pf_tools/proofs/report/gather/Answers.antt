@@ -12,13 +12,13 @@ pub returns-in-Ok-Edited-clause-ok : goal.returns-in-Ok-Edited-clause-ok
 returns-in-Ok-Edited-clause-ok g c =
     let told = rw (c.as_slice-file.ensures, c.in_ok-name.ensures, c.in-Ok-Edited.field-0-is) at c.in-Ok-Edited.ensures.told in
     let is = rw (c.as_slice-file.ensures, c.in_ok-name.ensures, c.as_slice.ensures) at c.edited_report.ensures.report in
-    IfOk-weaker c.edited_report.result _ _ (λ report is. edit_report c.args.words.now _ _ _ c.in-Ok-Edited.text (c.in-Ok-Edited.ensures.kept (λ e. cc)) told report is) is
+    IfOk-weaker c.edited_report.result _ _ (λ report is. edit_report c.args.words.now _ (g.F.Files.told c.file_said.new.files) _ c.in-Ok-Edited.text (c.in-Ok-Edited.ensures.kept (λ e. cc)) told report is) is
 
 pub returns-in-Ok-Edited-clause-err : goal.returns-in-Ok-Edited-clause-err
 returns-in-Ok-Edited-clause-err g c =
     let told = rw (c.as_slice-file.ensures, c.in_ok-name.ensures, c.in-Ok-Edited.field-0-is) at c.in-Ok-Edited.ensures.told in
     let left = rw (c.as_slice-file.ensures, c.in_ok-name.ensures, c.as_slice.ensures) at c.edited_report.ensures.err in
-    on_err_weaker c.edited_report.result (λ left. edit_short c.args.words.now _ _ _ c.in-Ok-Edited.text (c.in-Ok-Edited.ensures.kept (λ e. cc)) told left) left
+    on_err_weaker c.edited_report.result (λ left. edit_short c.args.words.now _ (g.F.Files.told c.file_said.new.files) _ c.in-Ok-Edited.text (c.in-Ok-Edited.ensures.kept (λ e. cc)) told left) left
 
 pub returns-in-Err-Refused-clause-ok : goal.returns-in-Err-Refused-clause-ok
 returns-in-Err-Refused-clause-ok g c =
