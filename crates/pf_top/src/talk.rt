@@ -47,8 +47,8 @@ fn take_turn<S: Source, O: Sink, M: Sink, J: Sink>(
     mail: &mut M,
     log: &mut J,
 ) -> Result<Turn, TalkFault>
-    requires { 0 < length buf.old }
-    requires { session.old.begun ≡ true }
+    requires room { 0 < length buf.old }
+    requires begun { session.old.begun ≡ true }
     ensures turn { IsTurn (streams (S.told input.old) (sinks (O.told out.old) (M.told mail.old) (J.told log.old)))
         (streams (S.told input.new) (sinks (O.told out.new) (M.told mail.new) (J.told log.new))) session.old.standing session.new.standing (length buf.old) result }
     ensures begun { session.new.begun ≡ true }
@@ -76,8 +76,8 @@ fn serve<S: Source, O: Sink, M: Sink, J: Sink>(
     mail: &mut M,
     log: &mut J,
 ) -> Result<Ended, TalkFault>
-    requires { session.old.begun ≡ true }
-    requires { session.old.standing ≡ fresh session.old.standing.setup }
+    requires begun { session.old.begun ≡ true }
+    requires starts { session.old.standing ≡ fresh session.old.standing.setup }
     ensures { Talked (speech_from session.old.standing) budget
         (streams (S.told input.old) (sinks (O.told out.old) (M.told mail.old) (J.told log.old)))
         (streams (S.told input.new) (sinks (O.told out.new) (M.told mail.new) (J.told log.new))) result }
