@@ -149,11 +149,11 @@ causes : cause_from (codes "myorigin") true (Ok (a_text [])) ∷ cause_from (cod
 causes = refl
 
 -- what a main.cf says
-accepted_text : map (file_opened (codes "main.cf")) (Some text ∷ None ∷ [])
+accepted_main_cf : map (file_opened (codes "main.cf")) (Some text ∷ None ∷ [])
     ≡ Ok site ∷ Err (conf_fault.Refused (record { file = codes "main.cf"; line = 0; cause = C10; name = codes "main.cf" })) ∷ []
 unfolding conf_of settings_refusal parameter_refusal class_of opening_of reading_named reading_of words_of catalogue name_value text_value parts first_part form_of host_of hosts_of nets_of net_of ipv4_of octet_of relay_of
     restriction_of
-accepted_text = refl
+accepted_main_cf = refl
 
 values_of_names : file_opened (codes "main.cf") (Some (codes "n = 10.0.0.0/8\nmynetworks = $n\nr = unauth\nsmtpd_relay_restrictions = reject_${r}_destination\n"
     ++ codes "mail_name = M\nmyhostname = a.b\nsmtpd_banner = $myhostname $mail_name\n"))

@@ -1,5 +1,6 @@
 -- Pieces that pass from the input to a session, and what is said for them.
-use Rattle.std.proofs.Common.{◌≡◌, ℕ, ◌+◌, ◌<◌, ◌≤◌, Bool, true, false, List, [], ◌++◌, Result, Ok, Err, inr, refl, sym, ap, subst, ◌∙◌, arith, if◌then◌else◌, length-append, append_assoc, fun_ext}
+use Rattle.std.proofs.Common.{◌≡◌, ℕ, ◌+◌, ◌<◌, ◌≤◌, Bool, true, false, List, [], ◌++◌, Result, Ok, Err, inr, refl, sym, ap, subst, ◌∙◌, arith, if◌then◌else◌, length-append, append_assoc}
+use Rattle.std.proofs.Math.Path.{fun_ext}
 use Rattle.std.specs.Io.KnownBytes.{IsAtEnd}
 use Rattle.pf_base.proofs.ToldLemmas.{appended_more, takes_more, takes_none}
 use Rattle.pf_base.specs.Lines.{lines}
@@ -108,10 +109,10 @@ cut_here {b = b} {t = t} going p stops few within = record {
 }
 
 -- either fault of a turn
-pub talked_fault : {a b now : Streams} {s t u : Standing} {n most budget : ℕ} (why : TalkFault) → t.state.over ≡ false → Passed a b s t n → IsTurn b now t u most (Err why)
-    → n < budget → most ≤ 4096 → n + most ≤ budget → Talked (speech_from s) budget a now (Err why)
-talked_fault fault.Input going p turn less few within = short_here turn.0 going p less
-talked_fault (fault.Sink why) going p turn less few within = cut_here going p turn few within
+pub talked_fault : {a b : Streams} {s t : Standing} {n most budget : ℕ} (now : Streams) (u : Standing) (why : TalkFault) → t.state.over ≡ false → Passed a b s t n
+    → IsTurn b now t u most (Err why) → n < budget → most ≤ 4096 → n + most ≤ budget → Talked (speech_from s) budget a now (Err why)
+talked_fault now u fault.Input going p turn less few within = short_here turn.0 going p less
+talked_fault now u (fault.Sink why) going p turn less few within = cut_here going p turn few within
 
 -- what is said behind a text
 abbrev behind : Texts → Speech → Speech
@@ -124,17 +125,17 @@ module _ (first : Texts) (speech : Speech) (before mid : Streams) (greeted : mid
     sinks = talks.sinks ∙ ap (λ w. appended w.sinks (speech.said taken)) greeted ∙ appended_more before.sinks first (speech.said taken);
   }
 
-  ends_behind : {budget : ℕ} {now : Streams} {taken : List ℕ} (how : Ended) → EndsAs speech budget now taken how → EndsAs (behind first speech) budget now taken how
-  ends_behind ended.AtEnd ends = ends
-  ends_behind ended.AtOver ends =
+  ends_behind : (budget : ℕ) (now : Streams) (taken : List ℕ) (how : Ended) → EndsAs speech budget now taken how → EndsAs (behind first speech) budget now taken how
+  ends_behind budget now taken ended.AtEnd ends = ends
+  ends_behind budget now taken ended.AtOver ends =
       let last = ends.2 in
       (ends.0, ends.1, record { earlier = last.earlier; piece = last.piece; parts = last.parts; few = last.few; going = last.going })
-  ends_behind ended.AtBudget ends = ends
+  ends_behind budget now taken ended.AtBudget ends = ends
 
-  talked_behind : {budget : ℕ} {now : Streams} (result : Result Ended TalkFault) → Talked speech budget mid now result → Talked (behind first speech) budget before now result
-  talked_behind (Ok how) t = record { taken = t.taken; talks = talks_behind t.talks; ends = ends_behind how t.ends }
-  talked_behind (Err fault.Input) t = record { taken = t.taken; mid = t.mid; talks = talks_behind t.talks; short = t.short; going = t.going; broken = t.broken }
-  talked_behind (Err (fault.Sink why)) t = record {
+  talked_behind : (budget : ℕ) (now : Streams) (result : Result Ended TalkFault) → Talked speech budget mid now result → Talked (behind first speech) budget before now result
+  talked_behind budget now (Ok how) t = record { taken = t.taken; talks = talks_behind t.talks; ends = ends_behind budget now t.taken how t.ends }
+  talked_behind budget now (Err fault.Input) t = record { taken = t.taken; mid = t.mid; talks = talks_behind t.talks; short = t.short; going = t.going; broken = t.broken }
+  talked_behind budget now (Err (fault.Sink why)) t = record {
     earlier = t.earlier;
     mid = t.mid;
     talks = talks_behind t.talks;
@@ -160,11 +161,11 @@ speech_is setup =
     ap (λ (g : List ℕ → Step). record { said = λ taken. joined (greeting setup) (texts_of setup (g taken)); over = λ taken. (g taken).next.over }) (fun_ext (given_fresh setup))
 
 -- the greeting, and then what is said from the start on, are a session
-pub has_session : (setup : Setup) {budget : ℕ} {before mid now : Streams} {s : Standing} (result : Result Ended TalkFault) → mid ≡ record before { sinks = appended before.sinks (greeting setup) }
+pub has_session : (setup : Setup) (budget : ℕ) (before now : Streams) {mid : Streams} {s : Standing} (result : Result Ended TalkFault) → mid ≡ record before { sinks = appended before.sinks (greeting setup) }
     → s ≡ fresh setup → Talked (speech_from s) budget mid now result → HasSession setup budget before now result
-has_session setup {budget} {before} {mid} {now} result greeted begins talked =
+has_session setup budget before now {mid} result greeted begins talked =
     let from_start = subst (λ x. Talked (speech_from x) budget mid now result) begins talked in
-    by_result result (subst (λ x. Talked x budget before now result) (speech_is setup) (talked_behind (greeting setup) (speech_from (fresh setup)) before mid greeted result from_start))
+    by_result result (subst (λ x. Talked x budget before now result) (speech_is setup) (talked_behind (greeting setup) (speech_from (fresh setup)) before mid greeted budget now result from_start))
   where
     by_result : (result : Result Ended TalkFault) → Talked (speech_of setup) budget before now result → HasSession setup budget before now result
     by_result (Ok how) t = t

@@ -5,8 +5,8 @@ use Rattle.pf_top.proofs.smtpd.run_smtpd.Goals as goal
 pub returns-in_default : goal.returns-in_default
 returns-in_default g c = record { course = course.starves; status_is = refl; leaves = ((refl, refl), refl) }
 
-pub returns-in-Ok : goal.returns-in-Ok
-returns-in-Ok g c =
+pub returns-in-Ok-open_conf : goal.returns-in-Ok-open_conf
+returns-in-Ok-open_conf g c =
     let told = rw (c.as_slice-file.ensures, c.in-Ok.ensures) at c.in-Ok-open_conf.ensures.told in
     record {
       course = course.talks c.in-Ok-open_conf.opening c.talk.result;

@@ -17,8 +17,8 @@ turns-preserved g c =
     record {
       passed = passed_more c.turns.invariant.passed turn.0;
       begun = c.in-Ok-More.ensures.begun;
-      going = turn.2.2;
-      within = omega (arith, turn.2.1, length-take c.min-room.result c.turns.buf, c.min-room.ensures);
+      going = turn.3;
+      within = omega (arith, turn.2, length-take c.min-room.result c.turns.buf, c.min-room.ensures);
     }
 
 pub returns-in-Ok-End : goal.returns-in-Ok-End
@@ -35,7 +35,7 @@ returns-in-Ok-Over g c =
 
 pub returns-in-Err : goal.returns-in-Err
 returns-in-Err g c =
-    talked_fault c.in-Err.fault c.turns.invariant.going c.turns.invariant.passed c.in-Err.ensures.turn c.turns-test.true
+    talked_fault _ _ c.in-Err.fault c.turns.invariant.going c.turns.invariant.passed c.in-Err.ensures.turn c.turns-test.true
     (omega (arith, length-take c.min-room.result c.turns.buf, c.min-room.ensures))
     (omega (arith, length-take c.min-room.result c.turns.buf, c.min-room.ensures, c.turns-test.true))
 

@@ -5,7 +5,7 @@ use Rattle.pf_top.proofs.talk.take_turn.Goals as goal
 pub returns-in-Ok-More-clause-turn : goal.returns-in-Ok-More-clause-turn
 returns-in-Ok-More-clause-turn g c = (
   record { taken = take c.in-Ok.count c.read.new.buf; is = sym c.in-Ok.ensures.bound.1; input = c.in-Ok.ensures.bytes.0; took = c.in-Ok-More.ensures.took },
-  ?,
+  omega (arith, c.if-count-eq0.false),
   omega (arith, c.in-Ok.ensures.bound.0, c.in-Ok.ensures.bound.1),
   going_more _ (sym c.in-Ok-More.field-0-is ∙ c.in-Ok-More.ensures.going),
 )
