@@ -7,4 +7,5 @@ pub mod LogicalLemmas
 pub mod Parts
 pub mod PrintingLaws
 pub mod Rows
+pub mod StatusLemmas
 pub mod ToldLemmas

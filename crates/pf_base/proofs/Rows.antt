@@ -15,6 +15,7 @@ use Rattle.pf_base.specs.Printing.{printable, printed_line}
 use Rattle.pf_base.specs.Refusal.{cause_text, name_part, refusal_line}
 use Rattle.std.specs.Fmt.{digits}
 use Rattle.pf_base.specs.Space.{is_space, trimmed, without_leading_space, without_trailing_space}
+use Rattle.pf_base.specs.Statuses.{is_among, without_fault}
 use Rattle.pf_base.specs.TableTexts.{place_of, place_or_next, with_text}
 use Rattle.pf_base.specs.Told.{Output}
 use Rattle.pf_base.specs.Words.{words_of}
@@ -206,6 +207,10 @@ empty = record { written = Some []; faults = 0 }
 each_sink_takes_its_text : appended (sinks empty (record empty { written = None }) empty) (record { out = codes "a"; mail = codes "b"; log = codes "c" })
     ≡ sinks (record empty { written = Some (codes "a") }) (record empty { written = None }) (record empty { written = Some (codes "c") })
 each_sink_takes_its_text = refl
+
+statuses_without_a_fault : map (is_among without_fault) (0 ∷ 1 ∷ 2 ∷ 3 ∷ 4 ∷ 5 ∷ 6 ∷ 7 ∷ 8 ∷ 9 ∷ 10 ∷ [])
+    ≡ true ∷ true ∷ true ∷ true ∷ false ∷ false ∷ false ∷ false ∷ false ∷ false ∷ true ∷ []
+statuses_without_a_fault = refl
 
 statuses_of_faults : map sink_status (fault.Out ∷ fault.Mail ∷ fault.Log ∷ fault.NoMemory ∷ []) ≡ 5 ∷ 6 ∷ 7 ∷ 9 ∷ []
 statuses_of_faults = refl

@@ -14,6 +14,7 @@ pub mod Printing
 pub mod Questions
 pub mod Refusal
 pub mod Space
+pub mod Statuses
 pub mod TableTexts
 pub mod Told
 pub mod Tries

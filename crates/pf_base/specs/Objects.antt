@@ -1,6 +1,6 @@
 -- The objects outside that a run is given, what is written to the sinks among them, and how a fault breaks that off. Words of contracts, by no
 -- standard; that the record of messages is written before the log and that before the output is postgate's own.
-use Rattle.std.specs.Prelude.{◌≡◌, ◌⊎◌, ℕ, List, [], ◌++◌, Result, Ok, Err, MatchResult}
+use Rattle.std.specs.Prelude.{◌≡◌, ◌≢◌, ◌⊎◌, ℕ, List, [], ◌++◌, Result, Ok, Err, MatchResult}
 use Rattle.pf_base.specs.Told.{HoldsFront, Input, Output, Tree, failed_output, wrote}
 use Rattle.pf_base.specs.declared.status.TheConstants.{LOG_FAILED, MAIL_FAILED, NO_MEMORY, OUT_FAILED}
 use Rattle.pf_base.specs.declared.texts.SinkFault.{SinkFault}
@@ -62,11 +62,12 @@ pub record InOut (old new : Sinks) (texts : Texts) : Type 0 where
   pub out : HoldsFront old.out new.out texts.out
   pub rest : new ≡ record { out = new.out; mail = wrote old.mail texts.mail; log = wrote old.log texts.log }
 
--- a fault broke the writing off: a prefix of each text was written, of a later sink's nothing, and the fault of a sink was counted there
+-- a fault broke the writing off: a prefix of each text was written, of a later sink's nothing, and the fault of a sink, for which there is a text, was
+-- counted there
 abbrev pub StopsBy : SinkFault → Sinks → Sinks → Texts → Type 0
-StopsBy fault.Mail old new texts = InMail (record old { mail = failed_output old.mail }) new texts
-StopsBy fault.Log old new texts = InLog (record old { log = failed_output old.log }) new texts
-StopsBy fault.Out old new texts = InOut (record old { out = failed_output old.out }) new texts
+StopsBy fault.Mail old new texts = (texts.mail ≢ []) × InMail (record old { mail = failed_output old.mail }) new texts
+StopsBy fault.Log old new texts = (texts.log ≢ []) × InLog (record old { log = failed_output old.log }) new texts
+StopsBy fault.Out old new texts = (texts.out ≢ []) × InOut (record old { out = failed_output old.out }) new texts
 StopsBy fault.NoMemory old new texts = InMail old new texts ⊎ (InLog old new texts ⊎ InOut old new texts)
 
 -- texts were written whole, or a fault broke that off

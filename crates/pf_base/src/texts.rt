@@ -78,22 +78,22 @@ pub fn write_some<S: Sink>(sink: &mut S, text: &[u8]) -> Result<(), OuterFault>
     sink.write(text)
 }
 
-/// Writes a line to the log.
+/// Writes a line to the log, unless it is empty.
 pub fn write_log<J: Sink>(log: &mut J, line: &[u8]) -> Result<(), SinkFault>
     ensures { (out mail : Output) → Says (sinks out mail (J.told log.old)) (sinks out mail (J.told log.new)) (log_text line.now) result }
 {
-    match log.write(line) {
+    match write_some(log, line) {
         Ok(()) => Ok(()),
         Err(OuterFault::Failed) => Err(SinkFault::Log),
         Err(OuterFault::NoMemory) => Err(SinkFault::NoMemory),
     }
 }
 
-/// Writes a text to the output.
+/// Writes a text to the output, unless it is empty.
 pub fn write_out<O: Sink>(out: &mut O, text: &[u8]) -> Result<(), SinkFault>
     ensures { (mail log : Output) → Says (sinks (O.told out.old) mail log) (sinks (O.told out.new) mail log) (out_text text.now) result }
 {
-    match out.write(text) {
+    match write_some(out, text) {
         Ok(()) => Ok(()),
         Err(OuterFault::Failed) => Err(SinkFault::Out),
         Err(OuterFault::NoMemory) => Err(SinkFault::NoMemory),

@@ -5,4 +5,5 @@ pub mod ReportLaws
 pub mod Rows
 pub mod RunLaws
 pub mod SettingLaws
+pub mod StatusLaws
 pub mod ValueLaws

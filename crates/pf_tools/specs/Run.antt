@@ -1,10 +1,28 @@
 -- What a run of postconf leaves. The statuses are postgate's own.
-use Rattle.std.specs.Prelude.{◌≡◌, ℕ, [], true, false, Result, IsOk, ⊤}
+use Rattle.std.specs.Prelude.{◌≡◌, ℕ, List, [], ◌∷◌, Option, Some, true, false, Result, Ok, Err, IsOk, ⊤}
 use Rattle.pf_base.specs.Objects.{Objects, Says, status_of}
+use Rattle.pf_base.specs.Statuses.{HasCauses, NoneRose, counts_of, is_among}
+use Rattle.pf_base.specs.declared.pair.Pair.{Pair}
+use Rattle.pf_base.specs.declared.refused.ConfFault.{ConfFault}
+use Rattle.pf_base.specs.declared.refused.ConfFault.TheVariants as fault
+use Rattle.pf_base.specs.declared.status.TheConstants.{DONE, FILES_FAILED, LOG_FAILED, NO_MEMORY, OUT_FAILED, REFUSED, WARNED}
 use Rattle.pf_base.specs.declared.texts.SinkFault.{SinkFault}
-use Rattle.pf_tools.specs.Course.{Courses, conf_name, course_status, is_done, output_of, texts_of}
+use Rattle.pf_tools.specs.Course.{Courses, conf_name, course_status, is_done, output_of, printed_status, said_in, texts_of}
+use Rattle.pf_tools.specs.declared.said.Said.{Said}
+use Rattle.pf_tools.specs.declared.said.Said.TheVariants as said
 use Rattle.pf_words.specs.Postconf.{is_edit}
 use Rattle.pf_words.specs.declared.postconf.ConfWords.{ConfWords}
+
+-- the statuses of postconf
+abbrev pub statuses : List ℕ
+statuses = DONE ∷ WARNED ∷ REFUSED ∷ OUT_FAILED ∷ LOG_FAILED ∷ FILES_FAILED ∷ NO_MEMORY ∷ []
+
+-- its statuses by what is said of main.cf, where no call failed
+abbrev pub statuses_by : Result Said ConfFault → List ℕ
+statuses_by (Ok (said.Printed lines warnings)) = printed_status warnings ∷ NO_MEMORY ∷ []
+statuses_by (Ok (said.Edited text)) = DONE ∷ NO_MEMORY ∷ []
+statuses_by (Err (fault.Refused refusal)) = REFUSED ∷ NO_MEMORY ∷ []
+statuses_by (Err fault.NoMemory) = NO_MEMORY ∷ []
 
 -- words of postconf: the run took a course over the files, and wrote what that has to say, or a sink's fault or want of memory broke the writing
 -- off; an edit that stands in the place of the file says nothing. The status is that of the course, or of what broke the writing off
@@ -14,7 +32,13 @@ pub record PostconfRun (words : ConfWords) (before now : Objects) (status : ℕ)
   pub says : Says before.streams.sinks now.streams.sinks (texts_of (conf_name words.folder) courses.course) said
   pub status_is : status ≡ status_of (course_status courses.course) said
   pub through : is_done courses.course ≡ true → IsOk said
+  -- what stays
   pub silent : output_of courses.course ≡ [] → now.streams.sinks.out ≡ before.streams.sinks.out
   pub edit : is_edit words.mode ≡ true → now.streams.sinks.out ≡ before.streams.sinks.out
   pub kept : is_edit words.mode ≡ false → now.files.content ≡ before.files.content
   pub rest : (now.streams.input ≡ before.streams.input) × (now.streams.sinks.mail ≡ before.streams.sinks.mail)
+  -- and which statuses there are, and why
+  pub known : is_among statuses status ≡ true
+  pub causes : HasCauses (counts_of before) (counts_of now) status
+  pub complete : (files : List Pair) → before.files.content ≡ Some files → NoneRose (counts_of before) (counts_of now)
+      → is_among (statuses_by (said_in words files)) status ≡ true
