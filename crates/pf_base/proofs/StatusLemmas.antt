@@ -28,29 +28,41 @@ pub record FilesCause (before now : Tree) (status : ℕ) : Type 0 where
   pub failed : status ≡ FILES_FAILED → now.faults ≡ counted before.faults
   pub kept : is_among without_fault status ≡ true → now.faults ≡ before.faults
 
-module _ (before now : Objects) (same : now.streams.input ≡ before.streams.input) where
-  -- a sink's fault was counted
-  pub stops_causes : (why : SinkFault) (texts : Texts) → StopsBy why before.streams.sinks now.streams.sinks texts → HasCauses (counts_of before) (counts_of now) (sink_status why)
-  stops_causes fault.Out texts stops =
-      record { input = λ is. cc; out = λ is. ap (λ o. o.faults) stops.1.out.2; mail = λ is. cc; log = λ is. cc; files = λ is. cc; kept = λ is. cc }
-  stops_causes fault.Mail texts stops =
-      record { input = λ is. cc; out = λ is. cc; mail = λ is. ap (λ o. o.faults) stops.1.mail.2; log = λ is. cc; files = λ is. cc; kept = λ is. cc }
-  stops_causes fault.Log texts stops =
-      record { input = λ is. cc; out = λ is. cc; mail = λ is. cc; log = λ is. ap (λ o. o.faults) stops.1.log.2; files = λ is. cc; kept = λ is. cc }
-  stops_causes fault.NoMemory texts stops = starved_causes (counts_of before) (counts_of now)
+-- a sink's fault was counted
+pub stops_causes : (before now : Objects) (why : SinkFault) (texts : Texts) → StopsBy why before.streams.sinks now.streams.sinks texts
+    → HasCauses (counts_of before) (counts_of now) (sink_status why)
+stops_causes before now fault.Out texts stops =
+    record { input = λ is. cc; out = λ is. ap (λ o. o.faults) stops.1.out.2; mail = λ is. cc; log = λ is. cc; files = λ is. cc; kept = λ is. cc }
+stops_causes before now fault.Mail texts stops =
+    record { input = λ is. cc; out = λ is. cc; mail = λ is. ap (λ o. o.faults) stops.1.mail.2; log = λ is. cc; files = λ is. cc; kept = λ is. cc }
+stops_causes before now fault.Log texts stops =
+    record { input = λ is. cc; out = λ is. cc; mail = λ is. cc; log = λ is. ap (λ o. o.faults) stops.1.log.2; files = λ is. cc; kept = λ is. cc }
+stops_causes before now fault.NoMemory texts stops = starved_causes (counts_of before) (counts_of now)
 
-  -- the causes of a run that says its last texts
-  pub said_causes : (status : ℕ) (said : Result ⊤ SinkFault) (texts : Texts) → Says before.streams.sinks now.streams.sinks texts said → is_among spoken status ≡ true
-      → FilesCause before.files now.files status → HasCauses (counts_of before) (counts_of now) (status_of status said)
-  said_causes status (Ok x) texts says own files = record {
-    input = λ is. cc (subst (λ s. is_among spoken s ≡ true) is own);
-    out = λ is. cc (subst (λ s. is_among spoken s ≡ true) is own);
-    mail = λ is. cc (subst (λ s. is_among spoken s ≡ true) is own);
-    log = λ is. cc (subst (λ s. is_among spoken s ≡ true) is own);
-    files = files.failed;
-    kept = λ is. counts_same (ap (λ i. i.faults) same) (ap (λ s. s.out.faults) says) (ap (λ s. s.mail.faults) says) (ap (λ s. s.log.faults) says) (files.kept is);
-  }
-  said_causes status (Err why) texts says own files = stops_causes why texts says
+-- no call failed
+pub kept_causes : (before now : Counts) (status : ℕ) → now ≡ before → is_among without_fault status ≡ true → HasCauses before now status
+kept_causes before now status same own = record {
+  input = λ is. cc (subst (λ s. is_among without_fault s ≡ true) is own);
+  out = λ is. cc (subst (λ s. is_among without_fault s ≡ true) is own);
+  mail = λ is. cc (subst (λ s. is_among without_fault s ≡ true) is own);
+  log = λ is. cc (subst (λ s. is_among without_fault s ≡ true) is own);
+  files = λ is. cc (subst (λ s. is_among without_fault s ≡ true) is own);
+  kept = λ is. same;
+}
+
+-- the causes of a run that says its last texts
+pub said_causes : (before now : Objects) (status : ℕ) (said : Result ⊤ SinkFault) (texts : Texts) → now.streams.input ≡ before.streams.input
+    → Says before.streams.sinks now.streams.sinks texts said → is_among spoken status ≡ true
+    → FilesCause before.files now.files status → HasCauses (counts_of before) (counts_of now) (status_of status said)
+said_causes before now status (Ok x) texts same says own files = record {
+  input = λ is. cc (subst (λ s. is_among spoken s ≡ true) is own);
+  out = λ is. cc (subst (λ s. is_among spoken s ≡ true) is own);
+  mail = λ is. cc (subst (λ s. is_among spoken s ≡ true) is own);
+  log = λ is. cc (subst (λ s. is_among spoken s ≡ true) is own);
+  files = files.failed;
+  kept = λ is. counts_same (ap (λ i. i.faults) same) (ap (λ s. s.out.faults) says) (ap (λ s. s.mail.faults) says) (ap (λ s. s.log.faults) says) (files.kept is);
+}
+said_causes before now status (Err why) texts same says own files = stops_causes before now why texts says
 
 -- where no count rose, a fault broke nothing off but for want of memory
 pub none_stopped : {before now : Counts} {status : ℕ} (why : SinkFault) → status ≡ sink_status why → HasCauses before now status → NoneRose before now → status ≡ NO_MEMORY
@@ -74,3 +86,7 @@ stops_record old new texts fault.Out none stops = ap (λ s. s.mail.written) stop
 stops_record old new texts fault.NoMemory none (inl stops) = front_same old.mail new.mail texts.mail none stops.mail
 stops_record old new texts fault.NoMemory none (inr (inl stops)) = ap (λ s. s.mail.written) stops.rest ∙ ap (append_known old.mail.written) none ∙ append_known-nil old.mail.written
 stops_record old new texts fault.NoMemory none (inr (inr stops)) = ap (λ s. s.mail.written) stops.rest ∙ ap (append_known old.mail.written) none ∙ append_known-nil old.mail.written
+
+pub said_record : (old new : Sinks) (texts : Texts) (said : Result ⊤ SinkFault) → texts.mail ≡ [] → Says old new texts said → new.mail.written ≡ old.mail.written
+said_record old new texts (Ok x) none says = ap (λ s. s.mail.written) says ∙ ap (append_known old.mail.written) none ∙ append_known-nil old.mail.written
+said_record old new texts (Err why) none says = stops_record old new texts why none says

@@ -1,10 +1,12 @@
 -- What a run leaves, put together.
-use Rattle.std.proofs.Common.{◌≡◌, ℕ, Option, None, Some, Err, [], refl, sym, ap, subst, ◌∙◌}
+use Rattle.std.proofs.Common.{◌≡◌, ℕ, Option, None, Some, Err, refl, sym, ap, subst, ◌∙◌}
 use Rattle.pf_base.proofs.ToldLemmas.{stops_first}
 use Rattle.pf_base.specs.Objects.{Objects, log_text}
 use Rattle.pf_base.specs.declared.texts.SinkFault.TheVariants.{NoMemory}
-use Rattle.pf_tools.specs.Course.{Course as tools}
+use Rattle.pf_tools.proofs.ReportLaws.{starved}
+use Rattle.pf_tools.proofs.RunLaws.{runs_short}
 use Rattle.pf_tools.specs.Run.{PostconfRun}
+use Rattle.pf_top.proofs.StatusLemmas.{said_usage, took_course}
 use Rattle.pf_top.specs.Run.{Leaves, Unformed, usage_line}
 use Rattle.pf_top.specs.Smtpd.{SmtpdRun}
 use Rattle.pf_top.specs.Smtpd.{Course as course}
@@ -15,19 +17,10 @@ use Rattle.pf_words.specs.declared.words.Words.TheVariants.{Smtpd, Postconf}
 
 -- memory was wanting before the command was known
 pub nothing_left : (words : Option Words) (o : Objects) → Leaves words o o 9
-nothing_left None o = record { said = Err NoMemory; status_is = refl; says = record { says = stops_first o.streams.sinks (log_text usage_line); input = refl }; files = refl }
-nothing_left (Some (Smtpd words)) o = record { course = course.starves; status_is = refl; leaves = ((refl, refl), refl) }
-nothing_left (Some (Postconf words)) o = record {
-  courses = record { course = tools.starves; is = tt; leaves = (refl, refl) };
-  said = Err NoMemory;
-  says = stops_first o.streams.sinks (record { out = []; mail = []; log = [] });
-  status_is = refl;
-  through = λ done. cc;
-  silent = λ none. refl;
-  edit = λ is. refl;
-  kept = λ is. refl;
-  rest = (refl, refl);
-}
+nothing_left None o = said_usage o o 9 (Err NoMemory) refl (record { says = stops_first o.streams.sinks (log_text usage_line); input = refl }) refl
+nothing_left (Some (Smtpd words)) o = took_course words o o 9 course.starves refl ((refl, refl), refl)
+nothing_left (Some (Postconf words)) o =
+    runs_short words o.files o.files o.streams.input o.streams.sinks.mail o.streams.sinks.out o.streams.sinks.log (starved words o.files o.files (refl, refl)) (λ is. refl)
 
 -- the words that were read are those of the command
 module _ {before now : Objects} {status : ℕ} {answer read : Option Words} {inner : Words} (same : answer ≡ read) (some : answer ≡ Some inner) where

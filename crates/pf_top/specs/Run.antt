@@ -1,7 +1,8 @@
 -- What a run leaves, by the command that its words name. The statuses are postgate's own, as is the line that says how the program is used.
-use Rattle.std.specs.Prelude.{◌≡◌, ℕ, List, Option, None, Some, Result, ⊤, codes}
+use Rattle.std.specs.Prelude.{◌≡◌, ℕ, true, List, [], ◌∷◌, Option, None, Some, Result, ⊤, codes}
 use Rattle.pf_base.specs.Objects.{Objects, status_of}
-use Rattle.pf_base.specs.declared.status.TheConstants.{USAGE}
+use Rattle.pf_base.specs.Statuses.{HasCauses, counts_of, is_among}
+use Rattle.pf_base.specs.declared.status.TheConstants.{LOG_FAILED, NO_MEMORY, USAGE}
 use Rattle.pf_base.specs.declared.texts.SinkFault.{SinkFault}
 use Rattle.pf_tools.specs.Run.{PostconfRun}
 use Rattle.pf_top.specs.Smtpd.{SaysLine, SmtpdRun}
@@ -18,6 +19,9 @@ pub record Unformed (before now : Objects) (status : ℕ) : Type 0 where
   pub status_is : status ≡ status_of USAGE said
   pub says : SaysLine before.streams now.streams usage_line said
   pub files : now.files ≡ before.files
+  -- which statuses there are, and why
+  pub known : is_among (USAGE ∷ LOG_FAILED ∷ NO_MEMORY ∷ []) status ≡ true
+  pub causes : HasCauses (counts_of before) (counts_of now) status
 
 -- what a run of words leaves
 abbrev pub Leaves : Option Words → Objects → Objects → ℕ → Type 0

@@ -1,13 +1,14 @@
 -- What a run of smtpd leaves. The statuses are postgate's own, as are the lines that it says of itself.
-use Rattle.std.specs.Prelude.{◌≡◌, ℕ, List, Some, Result, Ok, Err, ⊤, codes}
+use Rattle.std.specs.Prelude.{◌≡◌, ℕ, true, List, [], ◌∷◌, Some, Result, Ok, Err, ⊤, codes}
 use Rattle.pf_base.specs.Objects.{Objects, Says, Streams, log_text, sink_status, status_of}
 use Rattle.pf_base.specs.Refusal.{refusal_line}
+use Rattle.pf_base.specs.Statuses.{HasCauses, NoneRose, counts_of, is_among}
 use Rattle.pf_base.specs.Told.{failed_tree}
 use Rattle.pf_base.specs.declared.pair.Pair.{Pair}
 use Rattle.pf_base.specs.declared.refused.ConfFault.{ConfFault}
 use Rattle.pf_base.specs.declared.refused.ConfFault.TheVariants as conf
 use Rattle.pf_base.specs.declared.refused.Refused.{Refused}
-use Rattle.pf_base.specs.declared.status.TheConstants.{AT_BUDGET, DONE, FILES_FAILED, INPUT_FAILED, NO_MEMORY, REFUSED}
+use Rattle.pf_base.specs.declared.status.TheConstants.{AT_BUDGET, DONE, FILES_FAILED, INPUT_FAILED, LOG_FAILED, MAIL_FAILED, NO_MEMORY, OUT_FAILED, REFUSED}
 use Rattle.pf_base.specs.declared.texts.SinkFault.{SinkFault}
 use Rattle.pf_tools.specs.Course.{Kept, bytes_in, conf_name, failed_line}
 use Rattle.pf_top.specs.Opening.{setup_of}
@@ -20,9 +21,13 @@ use Rattle.pf_top.specs.declared.talk.TalkFault.{TalkFault}
 use Rattle.pf_top.specs.declared.talk.TalkFault.TheVariants as fault
 use Rattle.pf_words.specs.declared.smtpd.SmtpdWords.{SmtpdWords}
 
--- what the main.cf of these words says, or its first refusal, where the files tell
+-- what the main.cf of these words says, or its first refusal
+abbrev pub opened_in : SmtpdWords → List Pair → Result Opening ConfFault
+opened_in words files = file_opened (conf_name words.folder) (bytes_in files (conf_name words.folder))
+
+-- where the files tell, main.cf says this
 abbrev pub IsOpened : SmtpdWords → Objects → Result Opening ConfFault → Type 0
-IsOpened words before answer = (files : List Pair) → before.files.content ≡ Some files → file_opened (conf_name words.folder) (bytes_in files (conf_name words.folder)) ≡ answer
+IsOpened words before answer = (files : List Pair) → before.files.content ≡ Some files → opened_in words files ≡ answer
 
 -- a run has a session by what main.cf says, it says why main.cf is refused, or that it can't be read, or memory is wanting before any of these
 pub data Course : Type 0 where
@@ -67,8 +72,25 @@ course_status (refuses refusal said) = status_of REFUSED said
 course_status (unread said) = status_of FILES_FAILED said
 course_status starves = NO_MEMORY
 
+-- the statuses of smtpd
+abbrev pub statuses : List ℕ
+statuses = DONE ∷ AT_BUDGET ∷ REFUSED ∷ INPUT_FAILED ∷ OUT_FAILED ∷ MAIL_FAILED ∷ LOG_FAILED ∷ FILES_FAILED ∷ NO_MEMORY ∷ []
+
+-- its statuses by what main.cf says, where no call failed
+abbrev pub statuses_by : Result Opening ConfFault → List ℕ
+statuses_by (Ok opening) = DONE ∷ AT_BUDGET ∷ NO_MEMORY ∷ []
+statuses_by (Err (conf.Refused refusal)) = REFUSED ∷ NO_MEMORY ∷ []
+statuses_by (Err conf.NoMemory) = NO_MEMORY ∷ []
+
 -- words of smtpd
 pub record SmtpdRun (words : SmtpdWords) (before now : Objects) (status : ℕ) : Type 0 where
   pub course : Course
   pub status_is : status ≡ course_status course
   pub leaves : Leaves words before now course
+  -- no verb of today gives a record line
+  pub mail : now.streams.sinks.mail.written ≡ before.streams.sinks.mail.written
+  -- which statuses there are, and why
+  pub known : is_among statuses status ≡ true
+  pub causes : HasCauses (counts_of before) (counts_of now) status
+  pub complete : (files : List Pair) → before.files.content ≡ Some files → NoneRose (counts_of before) (counts_of now)
+      → is_among (statuses_by (opened_in words files)) status ≡ true

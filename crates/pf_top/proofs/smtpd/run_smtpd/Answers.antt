@@ -1,39 +1,31 @@
 use Rattle.std.proofs.Common.{Err, ap, refl}
+use Rattle.pf_top.proofs.StatusLemmas.{took_course}
 use Rattle.pf_top.specs.Smtpd.{Course as course}
 use Rattle.pf_top.proofs.smtpd.run_smtpd.Goals as goal
 
 pub returns-in_default : goal.returns-in_default
-returns-in_default g c = record { course = course.starves; status_is = refl; leaves = ((refl, refl), refl) }
+returns-in_default g c = took_course c.args.words.now _ _ _ course.starves refl ((refl, refl), refl)
 
 pub returns-in-Ok-open_conf : goal.returns-in-Ok-open_conf
 returns-in-Ok-open_conf g c =
     let told = rw (c.as_slice-file.ensures, c.in-Ok.ensures) at c.in-Ok-open_conf.ensures.told in
-    record {
-      course = course.talks c.in-Ok-open_conf.opening c.talk.result;
-      status_is = c.talk_status.ensures;
-      leaves = (told, c.in-Ok-open_conf.ensures.kept (λ e. cc), c.talk.ensures);
-    }
+    took_course c.args.words.now _ _ _ (course.talks c.in-Ok-open_conf.opening c.talk.result) c.talk_status.ensures
+    (told, c.in-Ok-open_conf.ensures.kept (λ e. cc), c.talk.ensures)
 
 pub returns-in-Err-Refused : goal.returns-in-Err-Refused
 returns-in-Err-Refused g c =
     let is = c.in-Err-Refused.field-0-is in
     let told = rw (is, c.as_slice-file.ensures, c.in-Ok.ensures) at c.in-Err-Refused.ensures.told in
-    record {
-      course = course.refuses c.in-Err-Refused.refusal c.say_refused.result;
-      status_is = c.status_behind.ensures;
-      leaves = (told, c.in-Err-Refused.ensures.kept (λ e. cc), record { says = c.say_refused.ensures _ _; input = refl });
-    }
+    took_course c.args.words.now _ _ _ (course.refuses c.in-Err-Refused.refusal c.say_refused.result) c.status_behind.ensures
+    (told, c.in-Err-Refused.ensures.kept (λ e. cc), record { says = c.say_refused.ensures _ _; input = refl })
 
 pub returns-in-Err-Failed : goal.returns-in-Err-Failed
 returns-in-Err-Failed g c =
     let says = rw (c.as_slice-file.ensures, c.in-Ok.ensures) at (c.say_unread.ensures (g.O.Sink.told c.args.out.now) (g.M.Sink.told c.args.mail.now)) in
-    record {
-      course = course.unread c.say_unread.result;
-      status_is = c.status_behind-in-Err-Failed.ensures;
-      leaves = (c.in-Err-Failed.ensures.failed (ap Err c.in-Err-Failed.field-0-is), record { says = says; input = refl });
-    }
+    took_course c.args.words.now _ _ _ (course.unread c.say_unread.result) c.status_behind-in-Err-Failed.ensures
+    (c.in-Err-Failed.ensures.failed (ap Err c.in-Err-Failed.field-0-is), record { says = says; input = refl })
 
 pub returns : goal.returns
 returns g c =
     let is = c.in-Err-NoMemory.field-0-is in
-    record { course = course.starves; status_is = refl; leaves = (c.in-Err-NoMemory.ensures.kept (λ e. cc), refl) }
+    took_course c.args.words.now _ _ _ course.starves refl (c.in-Err-NoMemory.ensures.kept (λ e. cc), refl)

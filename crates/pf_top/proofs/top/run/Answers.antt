@@ -1,6 +1,7 @@
 use Rattle.std.proofs.Common.{sym, refl, ap, subst, ◌∙◌}
 use Rattle.pf_base.specs.Objects.{objects}
 use Rattle.pf_top.proofs.RunLemmas.{nothing_left, postconf_left, smtpd_left, unformed_left}
+use Rattle.pf_top.proofs.StatusLemmas.{said_usage}
 use Rattle.pf_top.proofs.top.run.Goals as goal
 
 pub returns-in-Ok-Some-Smtpd : goal.returns-in-Ok-Some-Smtpd
@@ -16,12 +17,8 @@ returns-in-Ok-Some-Postconf g c =
 pub returns-in-Ok-None : goal.returns-in-Ok-None
 returns-in-Ok-None g c =
     let read = c.in-Ok-None in
-    unformed_left read.ensures.is read.field-0-is (record {
-      said = c.say_usage.result;
-      status_is = c.status_behind.ensures;
-      says = record { says = c.say_usage.ensures (g.O.Sink.told c.args.out.now) (g.M.Sink.told c.args.mail.now); input = refl };
-      files = refl;
-    })
+    unformed_left read.ensures.is read.field-0-is (said_usage _ _ _ c.say_usage.result c.status_behind.ensures
+        (record { says = c.say_usage.ensures (g.O.Sink.told c.args.out.now) (g.M.Sink.told c.args.mail.now); input = refl }) refl)
 
 pub returns-in-Err : goal.returns-in-Err
 returns-in-Err g c = nothing_left _ (objects (g.S.Source.told c.args.input.now) (g.O.Sink.told c.args.out.now) (g.M.Sink.told c.args.mail.now) (g.J.Sink.told c.args.log.now) (g.F.Files.told c.args.files.now))
