@@ -32,7 +32,7 @@ ROUNDS = 300
 CRASHES = 200
 SESSIONS = 4
 RECIPIENTS = 2000
-SETTINGS = 400
+SETTINGS = 480
 LONGEST = 20.0
 NOBODY = 65534
 # 30 KB of text: longer than what one read takes, so that a mixture of two texts could come out.
