@@ -146,8 +146,8 @@ impl<'a> RealFiles<'a> {
         }
     }
 
-    // What stands under the name for this run; None where nothing does.
-    fn find(&mut self, name: &str) -> io::Result<Option<&PlainFile>>
+    // Opens what stands under the name, where this is the first call on it.
+    fn look(&mut self, name: &str) -> io::Result<()>
         ensures { self.new.faults ≡ self.old.faults }
     {
         if !self.found.contains_key(name) {
@@ -155,16 +155,22 @@ impl<'a> RealFiles<'a> {
             let name = String::from_str(self.rt.alloc(), name)?;
             self.found.insert(name, file)?;
         }
+        Ok(())
+    }
+
+    // The file that stands under the name for this run; None where nothing does.
+    fn file(&self, name: &str) -> Option<&PlainFile> {
         match self.found.get(name) {
-            Some(Some(file)) => Ok(Some(file)),
-            _ => Ok(None),
+            Some(Some(file)) => Some(file),
+            _ => None,
         }
     }
 
     fn find_size(&mut self, name: &str) -> io::Result<Option<u64>>
         ensures { self.new.faults ≡ self.old.faults }
     {
-        match self.find(name)? {
+        self.look(name)?;
+        match self.file(name) {
             Some(file) => Ok(Some(file.size())),
             None => Ok(None),
         }
@@ -174,7 +180,8 @@ impl<'a> RealFiles<'a> {
         ensures bound { ReadsAtMost result buf.new }
         ensures same { self.new.faults ≡ self.old.faults }
     {
-        match self.find(name)? {
+        self.look(name)?;
+        match self.file(name) {
             Some(file) => file.read_at(at, buf),
             None => Ok(0),
         }
@@ -183,10 +190,10 @@ impl<'a> RealFiles<'a> {
     fn put(&mut self, name: &str, bytes: &[u8]) -> io::Result<()>
         ensures { self.new.faults ≡ self.old.faults }
     {
-        let rt = self.rt;
-        let new = replace(rt, name, self.find(name)?, bytes)?;
-        if let Some(found) = self.found.get_mut(name) {
-            *found = Some(new);
+        self.look(name)?;
+        let new = replace(self.rt, name, self.file(name), bytes)?;
+        if let Some(file) = self.found.get_mut(name) {
+            *file = Some(new);
         }
         Ok(())
     }
