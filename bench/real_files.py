@@ -32,6 +32,7 @@ ROUNDS = 300
 CRASHES = 200
 SESSIONS = 4
 RECIPIENTS = 2000
+A_PIECE = 80
 SETTINGS = 480
 LONGEST = 20.0
 NOBODY = 65534
@@ -304,11 +305,9 @@ def shared_log(program):
     kept = "an earlier session\n"
     with folder_with(SESSION_CF) as folder:
         (folder / "log").write_text(kept)
-        running = [program.start(folder, "smtpd", "-p", "192.0.2.9", "-m", "mail", "-l", "log", stdin=subprocess.PIPE, stdout=subprocess.DEVNULL)
-                   for _ in range(SESSIONS)]
         with ThreadPoolExecutor(SESSIONS) as pool:
-            list(pool.map(feed, running, range(SESSIONS)))
-        want([process.wait(LONGEST) for process in running] == [0] * SESSIONS, "a session did not end with 0")
+            statuses = list(pool.map(lambda session: log_session(program, folder, session), range(SESSIONS)))
+        want(statuses == [0] * SESSIONS, f"sessions with the statuses {statuses}")
         text = (folder / "log").read_text()
         want(text.startswith(kept), "what the log held is lost")
         lines = text[len(kept):].splitlines()
@@ -321,14 +320,18 @@ def shared_log(program):
     return f"{SESSIONS} sessions wrote {len(lines)} whole lines to one log, which kept its text; the session changed {turns} times from line to line"
 
 
-def feed(process, session):
-    """Hands a session its input in small pieces, each of which is a write to the log."""
-    text = f"MAIL FROM:<a@b.test>\r\n" + "".join(f"RCPT TO:<user{number}@s{session}.test>\r\n" for number in range(RECIPIENTS))
-    piece = 80 + session
-    with process.stdin as pipe:
-        for at in range(0, len(text), piece):
-            pipe.write(text[at:at + piece].encode())
-            pipe.flush()
+def log_session(program, folder, session):
+    """Runs a session whose input comes in small pieces, by a packet pipe, so that each is a write to the log."""
+    text = "MAIL FROM:<a@b.test>\r\n" + "".join(f"RCPT TO:<user{number}@s{session}.test>\r\n" for number in range(RECIPIENTS))
+    source, pipe = os.pipe2(os.O_DIRECT | os.O_CLOEXEC)
+    process = program.start(folder, "smtpd", "-p", "192.0.2.9", "-m", "mail", "-l", "log", stdin=source, stdout=subprocess.DEVNULL)
+    os.close(source)
+    try:
+        for at in range(0, len(text), A_PIECE):
+            os.write(pipe, text[at:at + A_PIECE].encode())
+    finally:
+        os.close(pipe)
+    return process.wait(LONGEST)
 
 
 def log_line(session, number):
