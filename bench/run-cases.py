@@ -33,7 +33,8 @@ RECORD_FAILS, LOG_FAILS = "the Nth write of the record fails", "the Nth write of
 FILES_FAIL = "the Nth call of the files fails"
 STATUS_OF = {READ_FAILS: 4, OUTPUT_FAILS: 5, RECORD_FAILS: 6, LOG_FAILS: 7, FILES_FAIL: 8}
 REPLACE_CALL = 3                       # a main.cf that one read takes is asked for its size and its text before it is replaced
-STATEMENTS = {text: re.compile(text.replace("Nth", "([0-9]+)(?:st|nd|rd|th)").replace("N", "([0-9]+)").encode()) for text in (
+ORDINAL = "([0-9]*(?:(?<!1)1st|(?<!1)2nd|(?<!1)3rd|1[123]th|[04-9]th))"
+STATEMENTS = {text: re.compile(text.replace("Nth", ORDINAL).replace("N", "([0-9]+)").encode()) for text in (
     "status N", "reads of N bytes", *STATUS_OF, "only the first N replies", "only the first N log lines",
     "N bytes are left unread", "the client ends its lines with LF", "each call fails in turn", "there are N reads",
     "there are N writes of the output", "there are N writes of the record", "there are N writes of the log",
@@ -105,7 +106,7 @@ class Plan:
     def say(self, line, layer):
         for statement, pattern in STATEMENTS.items():
             match = pattern.fullmatch(line)
-            number = int(match[1]) if match and pattern.groups else 0
+            number = int(match[1].rstrip(b"stndrh")) if match and pattern.groups else 0
             if match and number <= GREATEST:
                 if self.layers.get(statement) != layer:
                     self.layers[statement], self.numbers[statement] = layer, []

@@ -205,7 +205,7 @@ impl Reader {
             return Ok(());
         }
         let (statement, number) = statement_of(alloc, line)?;
-        plan.apply(statement, number)?;
+        plan.apply(statement, number, self.layer)?;
         Ok(())
     }
 

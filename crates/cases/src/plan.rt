@@ -50,11 +50,12 @@ pub struct Named {
     pub text: Text,
 }
 
-/// A call of an object: the first is 1.
+/// A call of an object, or a count of its calls, and where it was said: the first call is 1.
 #[derive(Clone, Copy)]
 pub struct Call {
     pub object: Object,
     pub number: u64,
+    pub layer: Layer,
 }
 
 /// What a case runs and wants.
@@ -103,7 +104,12 @@ impl Plan {
     }
 
     /// Takes a statement with its number.
-    pub fn apply(&mut self, statement: Statement, number: u64) -> Result<(), NoMemory> {
+    pub fn apply(
+        &mut self,
+        statement: Statement,
+        number: u64,
+        layer: Layer,
+    ) -> Result<(), NoMemory> {
         match statement {
             Statement::Status => self.status = number,
             Statement::Reads => self.reads = Some(number),
@@ -111,8 +117,16 @@ impl Plan {
             Statement::LogLines => self.log_lines = Some(number),
             Statement::Unread => self.unread = Some(number),
             Statement::InTurn => self.in_turn = true,
-            Statement::Fails(object) => self.failing.push(Call { object, number })?,
-            Statement::Calls(object) => self.calls.push(Call { object, number })?,
+            Statement::Fails(object) => self.failing.push(Call {
+                object,
+                number,
+                layer,
+            })?,
+            Statement::Calls(object) => self.calls.push(Call {
+                object,
+                number,
+                layer,
+            })?,
             Statement::LineFeeds | Statement::MemoryOnly => {}
         }
         Ok(())

@@ -33,12 +33,25 @@ fn is_same(one: Object, other: Object) -> bool {
     }
 }
 
-// The numbers of the calls of an object.
-fn numbers_of(alloc: Global, calls: &[Call], object: Object) -> Result<List<u64>, NoMemory> {
-    let mut numbers = List::new(alloc);
+// The last call of an object that is named; those of the case stand behind those that all cases of its file share.
+fn last_of(calls: &[Call], object: Object) -> Option<Call> {
+    let mut last = None;
     for call in calls {
         if is_same(call.object, object) {
-            numbers.push(call.number)?;
+            last = Some(*call);
+        }
+    }
+    last
+}
+
+// The numbers of the calls of an object: those that the case names, or else the shared ones.
+fn numbers_of(alloc: Global, calls: &[Call], object: Object) -> Result<List<u64>, NoMemory> {
+    let mut numbers = List::new(alloc);
+    if let Some(last) = last_of(calls, object) {
+        for call in calls {
+            if is_same(call.object, object) && call.layer == last.layer {
+                numbers.push(call.number)?;
+            }
         }
     }
     Ok(numbers)
@@ -46,12 +59,10 @@ fn numbers_of(alloc: Global, calls: &[Call], object: Object) -> Result<List<u64>
 
 // How many calls of an object a case counts, if it does.
 pub fn counted(calls: &[Call], object: Object) -> Option<u64> {
-    for call in calls {
-        if is_same(call.object, object) {
-            return Some(call.number);
-        }
+    match last_of(calls, object) {
+        None => None,
+        Some(last) => Some(last.number),
     }
-    None
 }
 
 fn files_of(alloc: Global, plan: &Plan, failing: &[Call]) -> Result<MemFiles, NoMemory> {

@@ -1,7 +1,7 @@
 //! The statements of a case, a line each.
 use crate::lines::with_digit;
 use crate::refusal::{Fault, Refusal};
-use pf_base::Bytes;
+use pf_base::{Bytes, NoMemory};
 use std::alloc::Global;
 
 /// What a run works on, each with its own calls and its own status of a fault.
@@ -78,19 +78,34 @@ static STATEMENTS: [(&str, Statement); 18] = [
     ("in memory only", Statement::MemoryOnly),
 ];
 
-// A line as it is read from the left: its text with N in the place of its first number, and that number.
+// A line as it is read from the left: its text with N in the place of its number and Nth in that of its ordinal, that number,
+// and the letters that stand right behind it so far.
 #[derive(Drop)]
 struct Shape {
     text: Bytes,
     number: Option<u64>,
+    letters: Bytes,
     in_number: bool,
-    is_ordinal: bool,
+}
+
+// What an ordinal ends in.
+fn ordinal_end(number: u64) -> &'static [u8] {
+    match (number % 100, number % 10) {
+        (11..=13, _) => b"th",
+        (_, 1) => b"st",
+        (_, 2) => b"nd",
+        (_, 3) => b"rd",
+        _ => b"th",
+    }
 }
 
 impl Shape {
+    // A line has one number, in one piece.
     fn add_digit(&mut self, digit: u8) -> Result<(), Fault> {
         if self.number.is_none() {
             self.text.push(b'N')?;
+        } else if !self.in_number || self.letters.len() > 0 {
+            return Err(Fault::Refused(Refusal::Statement));
         }
         let Some(more) = with_digit(self.number.unwrap_or(0), digit) else {
             return Err(Fault::Refused(Refusal::Statement));
@@ -100,39 +115,51 @@ impl Shape {
         Ok(())
     }
 
-    // The letters right after a number make it an ordinal; an N that is written is no number.
-    fn add_letter(&mut self, letter: u8) -> Result<(), Fault> {
-        if !self.in_number {
-            self.text.push(if letter == b'N' { b'?' } else { letter })?;
-        } else if !self.is_ordinal {
-            self.is_ordinal = true;
+    // An N that is written is no number.
+    fn add_letter(&mut self, letter: u8) -> Result<(), NoMemory> {
+        if self.in_number {
+            self.letters.push(letter)
+        } else {
+            self.text.push(if letter == b'N' { b'?' } else { letter })
+        }
+    }
+
+    // Ends a number: the right letters behind it make it an ordinal.
+    fn close(&mut self) -> Result<(), Fault> {
+        if self.in_number && self.letters.len() > 0 {
+            if self.letters.as_slice() != ordinal_end(self.number.unwrap_or(0)) {
+                return Err(Fault::Refused(Refusal::Statement));
+            }
             self.text.extend(b"th")?;
         }
+        self.in_number = false;
         Ok(())
     }
 
     fn add(&mut self, byte: u8) -> Result<(), Fault> {
         if byte.is_ascii_digit() {
-            self.add_digit(byte)
-        } else if byte.is_ascii_alphabetic() {
-            self.add_letter(byte)
-        } else {
-            self.in_number = false;
-            self.text.push(byte)?;
-            Ok(())
+            return self.add_digit(byte);
         }
+        if byte.is_ascii_alphabetic() {
+            self.add_letter(byte)?;
+            return Ok(());
+        }
+        self.close()?;
+        self.text.push(byte)?;
+        Ok(())
     }
 
     fn of(alloc: Global, line: &[u8]) -> Result<Shape, Fault> {
         let mut shape = Shape {
             text: Bytes::new(alloc),
             number: None,
+            letters: Bytes::new(alloc),
             in_number: false,
-            is_ordinal: false,
         };
         for byte in line {
             shape.add(*byte)?;
         }
+        shape.close()?;
         Ok(shape)
     }
 }

@@ -1,6 +1,6 @@
 //! A case once more for each call of each object, while that call fails.
 use crate::differences::{compare_numbers, differs};
-use crate::plan::{Call, Plan};
+use crate::plan::{Call, Layer, Plan};
 use crate::report::{Report, add_number};
 use crate::running::{Left, counted, run_words};
 use crate::statement::Object;
@@ -123,7 +123,11 @@ fn count_turns(
     object: Object,
 ) -> Result<u64, NoMemory> {
     for number in 1..MOST_CALLS {
-        let call = Call { object, number };
+        let call = Call {
+            object,
+            number,
+            layer: Layer::Own,
+        };
         if !run_turn(alloc, report, place, plan, words, whole, call)? {
             return Ok(number.saturating_sub(1));
         }
