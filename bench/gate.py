@@ -62,17 +62,18 @@ class Watch:
         self.spans = defaultdict(lambda: [float("inf"), 0.0])
 
     def work(self, pid, found):
-        """The work of a process, its own or that of the one which started it."""
+        """The work of a process of the gate, its own or that of the one which started it."""
+        work = None
         while pid in found and pid != self.root:
-            if pid not in self.works:
-                self.works[pid] = work_of(pid)
-            if self.works[pid] is not None:
-                return self.works[pid]
+            if pid not in self.works and (seen := work_of(pid)) is not None:
+                self.works[pid] = seen
+            work = work or self.works.get(pid)
             pid = found[pid][0]
-        return None
+        return work if pid == self.root else None
 
     def look(self):
         found, now = processes(), time.monotonic()
+        self.works = {pid: work for pid, work in self.works.items() if pid in found}
         for pid, (_, seconds) in found.items():
             work = self.work(pid, found)
             if work is not None:
