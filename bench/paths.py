@@ -1,5 +1,5 @@
 #!/usr/bin/env python3
-"""Measures how long it takes to read a path and to print its address.
+"""Measures how much processor time it takes to read a path and to print its address.
 
 usage: bench/paths.py [TURNS]      (1000000 where it is left out)
 
@@ -9,7 +9,6 @@ TURNS, once for each spelling and once for an empty input, and prints the differ
 import os
 import subprocess
 import sys
-import time
 from pathlib import Path
 
 CRATE = Path(__file__).resolve().parent.parent / "crates/addr_tests"
@@ -25,12 +24,14 @@ SPELLINGS = [
 
 
 def seconds(text, turns):
-    start = time.monotonic()
-    done = subprocess.run(
-        [PROGRAM], input=text.encode(), env={**os.environ, "TURNS": str(turns)}, stdout=subprocess.DEVNULL)
-    if done.returncode != 0:
-        sys.exit(f"paths.py: the program ended with {done.returncode}")
-    return time.monotonic() - start
+    process = subprocess.Popen(
+        [PROGRAM], stdin=subprocess.PIPE, stdout=subprocess.DEVNULL, env={**os.environ, "TURNS": str(turns)})
+    process.stdin.write(text.encode())
+    process.stdin.close()
+    _, status, usage = os.wait4(process.pid, 0)
+    if os.waitstatus_to_exitcode(status) != 0:
+        sys.exit("paths.py: the program failed")
+    return usage.ru_utime + usage.ru_stime
 
 
 def main():
