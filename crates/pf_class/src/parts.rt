@@ -2,6 +2,7 @@
 ghost use Rattle.std.specs.Prelude.{◌≡◌, ◌≤◌, ◌-◌, ◌==◌, not, length};
 ghost use Rattle.std.specs.List.{after_last as list_after_last, before_last as list_before_last, suffix_len};
 ghost use Rattle.std.specs.Option.{option_map};
+ghost use Rattle.pf_class.specs.Resolved as resolved;
 ghost use Rattle.pf_class.specs.Standard as spec;
 ghost use Rattle.pf_class.specs.Standard.{address_of};
 
@@ -58,4 +59,12 @@ pub(crate) fn at_percent(local: &[u8]) -> Option<(&[u8], &[u8])>
     ensures { option_map (λ parts. address_of parts.0.now parts.1.now) result ≡ spec.at_percent local.now }
 {
     user_at(before_last(local, b'%'), behind_last(local, b'%'))
+}
+
+// The user and the site of `user@site`.
+#[tactic(auto, unfolding(crate::specs::Resolved::at_at))]
+pub(crate) fn at_at(local: &[u8]) -> Option<(&[u8], &[u8])>
+    ensures { option_map (λ parts. address_of parts.0.now parts.1.now) result ≡ resolved.at_at local.now }
+{
+    user_at(before_last(local, b'@'), behind_last(local, b'@'))
 }

@@ -41,7 +41,7 @@ fn without_closing_dot(domain: &[u8]) -> &[u8]
 impl Rules {
     // The user and the site that a local part names.
     #[tactic(auto, unfolding(crate::specs::Standard::parted))]
-    fn parted<'a>(&self, local: &'a [u8]) -> Option<(&'a [u8], &'a [u8])>
+    pub(crate) fn parted<'a>(&self, local: &'a [u8]) -> Option<(&'a [u8], &'a [u8])>
         ensures { option_map (λ parts. address_of parts.0.now parts.1.now) result ≡ spec.parted self.now local.now }
     {
         if self.swap_bangpath
@@ -95,7 +95,12 @@ impl Rules {
     }
 
     #[tactic(auto, unfolding(crate::specs::Standard::full_domain))]
-    fn full_domain(&self, alloc: Global, domain: &[u8], mydomain: &[u8]) -> Result<Bytes, NoMemory>
+    pub(crate) fn full_domain(
+        &self,
+        alloc: Global,
+        domain: &[u8],
+        mydomain: &[u8],
+    ) -> Result<Bytes, NoMemory>
         ensures { IfOk result (λ full. full ≡ spec.full_domain self.now mydomain.now domain.now) }
     {
         let named = self.with_mydomain(alloc, domain, mydomain)?;
