@@ -1,5 +1,5 @@
 -- Worked examples of the definitions, each by computation.
-use Rattle.std.proofs.Common.{◌≡◌, ◌∷◌, ℕ, List, [], Option, Some, None, true, false, refl, codes}
+use Rattle.std.proofs.Common.{◌≡◌, ◌∷◌, ℕ, List, [], Option, Some, None, refl, codes}
 use Rattle.std.specs.Prelude.{map}
 use Rattle.pf_addr.specs.Grammar.{IsSpelling, is_at_domain, is_literal_byte, is_name_byte, is_plain_byte, is_route}
 use Rattle.pf_addr.specs.Printed.{escaped, is_atom_byte, printed, printed_domain, printed_local}

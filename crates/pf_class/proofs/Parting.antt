@@ -1,5 +1,5 @@
 -- What the rules that part a local part give.
-use Rattle.std.proofs.Common.{◌≡◌, ℕ, ◌+◌, ◌-◌, ◌<◌, ◌≤◌, Bool, true, false, List, [], ◌∷◌, Option, Some, None, length, take, drop, refl, sym, ap, ◌∙◌, arith, length-drop, length-take, ltb-true, lt-ltb, if◌then◌else◌}
+use Rattle.std.proofs.Common.{◌≡◌, ℕ, ◌+◌, ◌-◌, ◌<◌, Bool, true, false, List, Option, Some, None, length, take, drop, refl, ◌∙◌, arith, length-drop, length-take, ltb-true, lt-ltb, if◌then◌else◌}
 use Rattle.std.specs.Prelude.{◌==◌, ◌&&◌, not, nat_lt}
 use Rattle.std.specs.List.{after_first, after_last, before_first, before_last, position_or_len, suffix_len}
 use Rattle.std.proofs.lemmas.Bool.{and_parts}

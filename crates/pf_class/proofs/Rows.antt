@@ -1,5 +1,5 @@
 -- Worked examples of the definitions, each by computation.
-use Rattle.std.proofs.Common.{◌≡◌, ◌∷◌, ℕ, Bool, true, false, List, [], Option, Some, None, refl, codes}
+use Rattle.std.proofs.Common.{◌≡◌, ◌∷◌, ℕ, true, false, List, [], refl, codes}
 use Rattle.std.specs.Prelude.{map}
 use Rattle.pf_addr.specs.declared.address.Address.{Address}
 use Rattle.pf_class.specs.Resolved.{IsResolved, stays, goes, at_at, goes_on, holds_operator, split}

@@ -1,6 +1,6 @@
 -- The standard form of an address (ADDRESS_REWRITING_README, rewriting to standard form; postconf(5), swap_bangpath, allow_percent_hack,
 -- append_at_myorigin, append_dot_mydomain).
-use Rattle.std.specs.Prelude.{ℕ, ◌-◌, ◌==◌, ◌&&◌, Bool, not, nat_lt, List, [], ◌∷◌, ◌++◌, Option, Some, None, length, slice_index, take, unwrap_or, if◌then◌else◌}
+use Rattle.std.specs.Prelude.{ℕ, ◌-◌, ◌==◌, ◌&&◌, Bool, not, nat_lt, List, ◌∷◌, ◌++◌, Option, Some, None, length, slice_index, take, unwrap_or, if◌then◌else◌}
 use Rattle.std.specs.List.{after_first, after_last, before_first, before_last, list_any}
 use Rattle.std.specs.Option.{option_or}
 use Rattle.pf_base.specs.Names.{same_in_any_case}

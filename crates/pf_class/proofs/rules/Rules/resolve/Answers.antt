@@ -1,7 +1,7 @@
-use Rattle.std.proofs.Common.{◌≡◌, Some, sym, ◌∙◌, rules}
+use Rattle.std.proofs.Common.{◌≡◌, sym, rules}
 use Rattle.std.specs.Prelude.{◌||◌}
-use Rattle.pf_class.specs.Resolved.{goes, stays, goes_on, holds_operator}
-use Rattle.pf_class.specs.Standard.{address_of, full_domain}
+use Rattle.pf_class.specs.Resolved.{goes, stays, holds_operator}
+use Rattle.pf_class.specs.Standard.{address_of}
 use Rattle.pf_class.proofs.Parting.{goes_on_parts, standard_of}
 use Rattle.pf_class.proofs.rules.Rules.resolve.Goals.{then-routed, else-routed}
 use Rattle.pf_class.proofs.rules.Rules.resolve.Goals as goal
