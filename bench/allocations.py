@@ -6,9 +6,9 @@ usage: bench/allocations.py
 It wants a C compiler, for nth_allocation.c beside it. For each of a few runs it counts the calls of malloc, calloc and
 realloc, and then fails the first, the second, and so on. A run has to end with the status that it has where none fails, and
 then with the same output, log and main.cf, or with 9, and then with a beginning of the same output and log, and with main.cf
-as it was or as it is where none fails. Inside the real replacement of a file want of memory is a fault of the files, so an edit
-may also end with 8 and its line, and then with main.cf as it was. Nothing may be left beside main.cf. It prints how many runs
-ended in which way, and fails where one ended in another.
+as it was or as it is where none fails. Inside the real files want of memory is a fault of theirs, so a run may also end with 8
+and its line, and then with main.cf as it was. Nothing may be left beside main.cf. It prints how many runs ended in which way,
+and fails where one ended in another.
 """
 import os
 import shutil
@@ -66,9 +66,10 @@ class Ended:
         return (self.status == 9 and whole.out.startswith(self.out) and whole.log.startswith(self.log)
                 and self.conf in (conf, whole.conf) and not self.beside)
 
-    def is_not_replaced(self, conf):
-        """Whether the real replacement of main.cf failed."""
-        return self.said() == (8, b"", b"postgate: main.cf: replace failed\n", conf, [])
+    def is_fault_of_the_files(self, conf):
+        """Whether main.cf could not be read, or not be replaced, and is as it was."""
+        lines = [f"postgate: main.cf: {call} failed\n".encode() for call in ("read", "replace")]
+        return self.said() in [(8, b"", line, conf, []) for line in lines]
 
 
 def main():
@@ -84,18 +85,18 @@ def main():
             if whole.status != status or whole.calls is None or whole.beside or whole.conf != (after or conf):
                 sys.exit(f"allocations.py: {name}: {whole.said()} and {whole.calls} calls where none fails")
             calls = range(1, whole.calls + 1)
-            same = memory = unreplaced = 0
+            same = memory = files = 0
             for call, now in zip(calls, pool.map(lambda call: Ended(shim, words, conf, call), calls)):
                 if now.said() == whole.said():
                     same += 1
                 elif now.is_front_of(whole, conf):
                     memory += 1
-                elif after is not None and now.is_not_replaced(conf):
-                    unreplaced += 1
+                elif now.is_fault_of_the_files(conf):
+                    files += 1
                 else:
                     bad += 1
                     print(f"{name}: call {call}: {now.said()}")
-            print(f"{name}, status {status}: {whole.calls} calls; {memory} runs ended with 9, {unreplaced} with 8, "
+            print(f"{name}, status {status}: {whole.calls} calls; {memory} runs ended with 9, {files} with 8, "
                   f"{same} as if none had failed")
     return 1 if bad else 0
 

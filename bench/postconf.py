@@ -140,7 +140,7 @@ def grown(folder, counting):
 
 def main():
     if not PROGRAM.exists():
-        sys.exit(f"{PROGRAM} is not built: run bench/run-example.sh first")
+        sys.exit(f"{PROGRAM} is not built: run scripts/build.py first")
     counting = shutil.which("valgrind") is not None
     if not counting:
         print("valgrind is not there: instructions are not counted, and seconds stand in their place")

@@ -71,7 +71,7 @@ def measure(folder, recipients):
 def main():
     recipients = int(sys.argv[1]) if len(sys.argv) > 1 else 1_000_000
     if not PROGRAM.exists():
-        sys.exit(f"{PROGRAM} is not built: run bench/run-example.sh first")
+        sys.exit(f"{PROGRAM} is not built: run scripts/build.py first")
     with tempfile.TemporaryDirectory() as name:
         folder = Path(name)
         (folder / "main.cf").write_text(MAIN_CF)

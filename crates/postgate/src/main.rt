@@ -1,7 +1,9 @@
 //! postgate: the words of the process, and the real objects that the top call works on.
 #![tactic(auto)]
 
+mod plain;
 mod real;
+mod replacement;
 #[cfg(test)]
 mod tests;
 

@@ -1,14 +1,15 @@
-//! The real objects outside: streams, a file that is made at its first write, and files under their names. They tell
-//! contracts nothing of their content, and count their faults, the bytes that were read, and the reads of files.
+//! The real objects outside: streams, a file that is appended to, and files under their names. They tell contracts nothing of
+//! their content, and count their faults, the bytes that were read, and the reads of files.
 ghost use Rattle.std.specs.Prelude.{◌≡◌, None, IfOk};
 ghost use Rattle.std.specs.Io.{ReadsAtMost};
 
+use crate::plain::PlainFile;
+use crate::replacement::replace;
 use pf_base::{Failed, Files, OuterFault, Sink, Source};
-use std::fs::{File, OpenOptions, Permissions};
-use std::io::{ErrorKind, Read, Write};
-use std::os::unix::fs::{FileExt, OpenOptionsExt, PermissionsExt};
-use std::path::PathBuf;
-use std::{fs, io};
+use std::collections::BTreeMap;
+use std::fs::{File, OpenOptions};
+use std::io;
+use std::io::{Read, Write};
 
 /// Reads a stream.
 #[derive(Drop)]
@@ -72,7 +73,8 @@ impl<W: Write + Drop> Sink for Writing<W> {
     }
 }
 
-/// Writes a file of this name, which is made at the first write.
+/// Writes a file of this name, which is opened at the first write and made where it is not there. Each piece is appended to
+/// what the file holds; several sinks may share a file.
 #[derive(Drop)]
 pub struct FileSink<'a> {
     rt: &'a HostRuntime,
@@ -91,14 +93,20 @@ impl<'a> FileSink<'a> {
         }
     }
 
-    // Writes a piece to the file, which is there from then on.
-    fn write_file(&mut self, piece: &[u8]) -> io::Result<()>
+    fn open(&self) -> io::Result<File> {
+        let mut options = OpenOptions::new();
+        options.append(true).create(true);
+        options.open(self.rt, self.name)
+    }
+
+    // Appends a piece, in one write as far as the system takes it so.
+    fn append(&mut self, piece: &[u8]) -> io::Result<()>
         ensures { self.new.faults ≡ self.old.faults }
     {
         match &mut self.file {
             Some(file) => file.write_all(piece),
             None => {
-                let mut file = fs::create(self.rt, self.name)?;
+                let mut file = self.open()?;
                 let written = file.write_all(piece);
                 self.file = Some(file);
                 written
@@ -111,7 +119,7 @@ impl Sink for FileSink<'_> {
     ghost told = { λ sink. record { written = None; faults = sink.faults } };
 
     fn write(&mut self, piece: &[u8]) -> Result<(), OuterFault> {
-        match self.write_file(piece) {
+        match self.append(piece) {
             Ok(()) => Ok(()),
             Err(_) => {
                 self.faults = self.faults.saturating_add(1);
@@ -121,10 +129,13 @@ impl Sink for FileSink<'_> {
     }
 }
 
-/// The files of the system, under their names as they stand.
+/// The files of the system, under their names as they stand. What the first call on a name found, a plain file or nothing,
+/// is what all later calls on it go by: the file stays open, and another that takes its name is not seen. A file that this run
+/// puts in its place counts from then on. A name of anything else is a fault.
 #[derive(Drop)]
 pub struct RealFiles<'a> {
     rt: &'a HostRuntime,
+    found: BTreeMap<String, Option<PlainFile>>,
     reads: u64,
     faults: u64,
 }
@@ -133,77 +144,66 @@ impl<'a> RealFiles<'a> {
     pub fn new(rt: &'a HostRuntime) -> RealFiles<'a> {
         RealFiles {
             rt,
+            found: BTreeMap::new(rt.alloc()),
             reads: 0,
             faults: 0,
         }
     }
 
-    fn read_some(&self, name: &str, at: u64, buf: &mut [u8]) -> io::Result<usize>
-        ensures { ReadsAtMost result buf.new }
+    // Opens what stands under the name, where this is the first call on it.
+    fn look(&mut self, name: &str) -> io::Result<()>
+        ensures reads { self.new.reads ≡ self.old.reads }
+        ensures faults { self.new.faults ≡ self.old.faults }
     {
-        let file = fs::open(self.rt, name)?;
-        file.read_at(buf, at)
+        if !self.found.contains_key(name) {
+            let file = PlainFile::find(self.rt, name)?;
+            let name = String::from_str(self.rt.alloc(), name)?;
+            self.found.insert(name, file)?;
+        }
+        Ok(())
     }
 
-    // The file that a name stands for, behind links. A name of nothing stands for itself.
-    fn behind_links(&self, name: &str) -> io::Result<PathBuf> {
-        match fs::symlink_metadata(self.rt, name) {
-            Ok(metadata) if metadata.is_symlink() => fs::canonicalize(self.rt, name),
-            Err(fault) if fault.kind() != ErrorKind::NotFound => Err(fault),
-            _ => Ok(PathBuf::from_str(self.rt.alloc(), name)?),
+    // The file that stands under the name for this run; None where nothing does.
+    fn file(&self, name: &str) -> Option<&PlainFile> {
+        match self.found.get(name) {
+            Some(Some(file)) => Some(file),
+            _ => None,
         }
     }
 
-    // The permissions of a file, if it is there.
-    fn permissions(&self, name: &str) -> io::Result<Option<Permissions>> {
-        match fs::metadata(self.rt, name) {
-            Ok(metadata) => Ok(Some(metadata.permissions())),
-            Err(fault) if fault.kind() == ErrorKind::NotFound => Ok(None),
-            Err(fault) => Err(fault),
+    fn find_size(&mut self, name: &str) -> io::Result<Option<u64>>
+        ensures reads { self.new.reads ≡ self.old.reads }
+        ensures faults { self.new.faults ≡ self.old.faults }
+    {
+        self.look(name)?;
+        match self.file(name) {
+            Some(file) => Ok(Some(file.size())),
+            None => Ok(None),
         }
     }
 
-    // Makes an empty file that no more may read and write than these permissions let, in the place of one that was left
-    // by a run that was broken off.
-    fn make_file(&self, name: &str, permissions: &Option<Permissions>) -> io::Result<File> {
-        let _ = fs::remove_file(self.rt, name);
-        let mut options = OpenOptions::new();
-        options.write(true).create_new(true);
-        if let Some(permissions) = permissions {
-            options.mode(permissions.mode());
+    fn read_some(&mut self, name: &str, at: u64, buf: &mut [u8]) -> io::Result<usize>
+        ensures bound { ReadsAtMost result buf.new }
+        ensures reads { self.new.reads ≡ self.old.reads }
+        ensures faults { self.new.faults ≡ self.old.faults }
+    {
+        self.look(name)?;
+        match self.file(name) {
+            Some(file) => file.read_at(at, buf),
+            None => Ok(0),
         }
-        options.open(self.rt, name)
     }
 
-    // Writes the bytes to a file that was made beside, and puts it in the place of the other once it is whole on the disk.
-    fn put_in_place(
-        &self,
-        mut file: File,
-        beside: &str,
-        bytes: &[u8],
-        permissions: Option<Permissions>,
-        name: &str,
-    ) -> io::Result<()> {
-        file.write_all(bytes)?;
-        if let Some(permissions) = permissions {
-            file.set_permissions(permissions)?;
+    fn put(&mut self, name: &str, bytes: &[u8]) -> io::Result<()>
+        ensures reads { self.new.reads ≡ self.old.reads }
+        ensures faults { self.new.faults ≡ self.old.faults }
+    {
+        self.look(name)?;
+        let new = replace(self.rt, name, self.file(name), bytes)?;
+        if let Some(file) = self.found.get_mut(name) {
+            *file = Some(new);
         }
-        file.sync_all()?;
-        fs::rename(self.rt, beside, name)
-    }
-
-    // Replaces the file behind links, which keeps its permissions, by a new one beside it. Where that fails, none is left
-    // beside it.
-    fn write_beside(&self, name: &str, bytes: &[u8]) -> io::Result<()> {
-        let path = self.behind_links(name)?;
-        let permissions = self.permissions(path.as_str())?;
-        let beside = format!(in self.rt.alloc(); "{}.new", path.as_str())?;
-        let file = self.make_file(beside.as_str(), &permissions)?;
-        let put = self.put_in_place(file, beside.as_str(), bytes, permissions, path.as_str());
-        if put.is_err() {
-            let _ = fs::remove_file(self.rt, beside.as_str());
-        }
-        put
+        Ok(())
     }
 }
 
@@ -211,9 +211,8 @@ impl Files for RealFiles<'_> {
     ghost told = { λ files. record { content = None; reads = files.reads; faults = files.faults } };
 
     fn size(&mut self, name: &str) -> Result<Option<u64>, Failed> {
-        match fs::metadata(self.rt, name) {
-            Ok(metadata) => Ok(Some(metadata.len())),
-            Err(fault) if fault.kind() == ErrorKind::NotFound => Ok(None),
+        match self.find_size(name) {
+            Ok(size) => Ok(size),
             Err(_) => {
                 self.faults = self.faults.saturating_add(1);
                 Err(Failed)
@@ -233,7 +232,7 @@ impl Files for RealFiles<'_> {
     }
 
     fn replace(&mut self, name: &str, bytes: &[u8]) -> Result<(), OuterFault> {
-        match self.write_beside(name, bytes) {
+        match self.put(name, bytes) {
             Ok(()) => Ok(()),
             Err(_) => {
                 self.faults = self.faults.saturating_add(1);

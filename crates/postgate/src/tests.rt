@@ -31,6 +31,22 @@ fn a_file_is_made_at_the_first_write(rt: HostRuntime) -> Result<(), Fail> {
 }
 
 #[test]
+fn sinks_append_to_what_a_file_holds(rt: HostRuntime) -> Result<(), Fail> {
+    fs::write(&rt, "log", "earlier\n")?;
+    let mut one = FileSink::new(&rt, "log");
+    let mut other = FileSink::new(&rt, "log");
+    assert_eq!(rt; one.write(b"a\n"), Ok(()));
+    assert_eq!(rt; other.write(b"b\n"), Ok(()));
+    assert_eq!(rt; one.write(b"c\n"), Ok(()));
+    assert_eq!(rt;
+        fs::read_to_string(&rt, "log")?.as_str(),
+        "earlier\na\nb\nc\n"
+    );
+    fs::remove_file(&rt, "log")?;
+    Ok(())
+}
+
+#[test]
 fn files_are_read_and_replaced(rt: HostRuntime) -> Result<(), Fail> {
     let mut files = RealFiles::new(&rt);
     assert_eq!(rt; files.size("conf"), Ok(None));
@@ -43,9 +59,61 @@ fn files_are_read_and_replaced(rt: HostRuntime) -> Result<(), Fail> {
     assert_eq!(rt; files.replace("conf", b""), Ok(()));
     assert_eq!(rt; files.size("conf"), Ok(Some(0)));
     assert_eq!(rt; files.size("conf/below").is_err(), true);
-    assert_eq!(rt; files.read_at("none", 0, &mut buf).is_err(), true);
+    assert_eq!(rt; files.read_at("none", 0, &mut buf), Ok(0));
     assert_eq!(rt; files.replace("conf/below", b"").is_err(), true);
     fs::remove_file(&rt, "conf")?;
+    Ok(())
+}
+
+#[test]
+fn a_file_that_takes_the_name_is_not_seen(rt: HostRuntime) -> Result<(), Fail> {
+    fs::write(&rt, "seen", "a")?;
+    fs::write(&rt, "later", "bc")?;
+    let mut files = RealFiles::new(&rt);
+    assert_eq!(rt; files.size("seen"), Ok(Some(1)));
+    fs::rename(&rt, "later", "seen")?;
+    let mut buf = [0u8; 4];
+    assert_eq!(rt; files.read_at("seen", 0, &mut buf), Ok(1));
+    assert_eq!(rt; buf.as_slice(), b"a\0\0\0".as_slice());
+    assert_eq!(rt; files.replace("seen", b"d"), Err(OuterFault::Failed));
+    assert_eq!(rt; fs::read_to_string(&rt, "seen")?.as_str(), "bc");
+    assert_eq!(rt; is_there(&rt, "seen.tmp"), false);
+    fs::remove_file(&rt, "seen")?;
+    Ok(())
+}
+
+#[test]
+fn a_file_that_is_made_meanwhile_is_kept(rt: HostRuntime) -> Result<(), Fail> {
+    let mut files = RealFiles::new(&rt);
+    assert_eq!(rt; files.size("fresh"), Ok(None));
+    fs::write(&rt, "fresh", "a")?;
+    assert_eq!(rt; files.replace("fresh", b"b"), Err(OuterFault::Failed));
+    assert_eq!(rt; fs::read_to_string(&rt, "fresh")?.as_str(), "a");
+    assert_eq!(rt; is_there(&rt, "fresh.tmp"), false);
+    fs::remove_file(&rt, "fresh")?;
+    Ok(())
+}
+
+#[test]
+fn a_lock_refuses_a_replacement(rt: HostRuntime) -> Result<(), Fail> {
+    fs::write(&rt, "locked", "a")?;
+    let other = fs::create(&rt, "locked.tmp")?;
+    other.lock()?;
+    assert_eq!(rt; replaced(&rt, "locked", b"b"), Err(OuterFault::Failed));
+    assert_eq!(rt; is_there(&rt, "locked.tmp"), true);
+    other.unlock()?;
+    assert_eq!(rt; replaced(&rt, "locked", b"b"), Ok(()));
+    assert_eq!(rt; fs::read_to_string(&rt, "locked")?.as_str(), "b");
+    assert_eq!(rt; is_there(&rt, "locked.tmp"), false);
+    fs::remove_file(&rt, "locked")?;
+    Ok(())
+}
+
+#[test]
+fn a_device_is_a_fault(rt: HostRuntime) -> Result<(), Fail> {
+    let mut files = RealFiles::new(&rt);
+    assert_eq!(rt; files.size("/dev/null").is_err(), true);
+    assert_eq!(rt; files.read_at("/dev/null", 0, &mut [0u8; 4]).is_err(), true);
     Ok(())
 }
 
@@ -85,10 +153,11 @@ fn a_link_stays_and_its_file_is_replaced(rt: HostRuntime) -> Result<(), Fail> {
 #[test]
 fn a_link_to_nothing_is_a_fault(rt: HostRuntime) -> Result<(), Fail> {
     symlink(&rt, "nothing", "dangling")?;
+    assert_eq!(rt; RealFiles::new(&rt).size("dangling").is_err(), true);
     assert_eq!(rt; replaced(&rt, "dangling", b"b"), Err(OuterFault::Failed));
     assert_eq!(rt; is_there(&rt, "nothing"), false);
-    assert_eq!(rt; is_there(&rt, "nothing.new"), false);
-    assert_eq!(rt; is_there(&rt, "dangling.new"), false);
+    assert_eq!(rt; is_there(&rt, "nothing.tmp"), false);
+    assert_eq!(rt; is_there(&rt, "dangling.tmp"), false);
     fs::remove_file(&rt, "dangling")?;
     Ok(())
 }
@@ -105,7 +174,7 @@ fn a_name_below_a_plain_file_is_a_fault(rt: HostRuntime) -> Result<(), Fail> {
 fn a_folder_is_a_fault_and_nothing_is_left_beside(rt: HostRuntime) -> Result<(), Fail> {
     fs::create_dir(&rt, "taken")?;
     assert_eq!(rt; replaced(&rt, "taken", b"b"), Err(OuterFault::Failed));
-    assert_eq!(rt; is_there(&rt, "taken.new"), false);
+    assert_eq!(rt; is_there(&rt, "taken.tmp"), false);
     fs::remove_dir(&rt, "taken")?;
     Ok(())
 }
@@ -114,7 +183,7 @@ fn a_folder_is_a_fault_and_nothing_is_left_beside(rt: HostRuntime) -> Result<(),
 fn a_file_that_was_not_there_is_made(rt: HostRuntime) -> Result<(), Fail> {
     assert_eq!(rt; replaced(&rt, "made", b"b"), Ok(()));
     assert_eq!(rt; fs::read_to_string(&rt, "made")?.as_str(), "b");
-    assert_eq!(rt; is_there(&rt, "made.new"), false);
+    assert_eq!(rt; is_there(&rt, "made.tmp"), false);
     fs::remove_file(&rt, "made")?;
     Ok(())
 }

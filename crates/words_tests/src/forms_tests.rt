@@ -1,5 +1,6 @@
 use pf_base::{Bytes, ConfFault, NoMemory, decimal};
 use pf_maincf::MainCf;
+use pf_tools::conf_name;
 use pf_words::{
     ConfMode, ConfWords, Shape, SmtpdWords, Words, ipv4_of, octet_of, setting_of_word,
     settings_of_words, sink_names, words_of,
@@ -338,20 +339,101 @@ fn edited(alloc: Global, text: &[u8], line: &str) -> Result<Bytes, ConfFault> {
     MainCf::edit(alloc, b"main.cf", text, &sets)
 }
 
+// Words, and the names of the files for the record of messages and for the log.
+const SINKS: &[(&str, Option<&str>, Option<&str>)] = &[
+    ("smtpd -p 1.2.3.4 -m mail", Some("mail"), None),
+    ("smtpd -l log -p 1.2.3.4 -m=", Some(""), Some("log")),
+    ("smtpd -p 1.2.3 -m mail -l log", None, None),
+    ("postconf -n mail", None, None),
+    ("@", None, None),
+    ("smtpd -p 10.1.2.3 -m mail", Some("mail"), None),
+    ("smtpd -m mail -p 10.1.2.3", Some("mail"), None),
+    ("smtpd -p 192.0.2.9 -m mail", Some("mail"), None),
+    ("smtpd -m mail -p 192.0.2.9", Some("mail"), None),
+    ("smtpd -p10.1.2.3 -mmail", Some("mail"), None),
+    ("smtpd -p=10.1.2.3 -m=mail", Some("mail"), None),
+    ("smtpd -p 10.255.255.255 -m a_b", Some("a b"), None),
+    ("smtpd -p 11.0.0.0 -m /a/b", Some("/a/b"), None),
+    ("smtpd -p 0.0.0.0 -m @", Some(""), None),
+    ("smtpd -m= -p 255.255.255.255", Some(""), None),
+    ("smtpd -p 10.1.2.3 -m -", Some("-"), None),
+    ("smtpd -p 10.1.2.3 -m-x", Some("-x"), None),
+    ("smtpd -p 10.1.2.3 -m==x", Some("=x"), None),
+    ("smtpd -p 10.1.2.3 -m mail --", Some("mail"), None),
+    ("smtpd -c d -p 192.0.2.9 -m mail", Some("mail"), None),
+    ("smtpd -p 192.0.2.9 -m mail -cd", Some("mail"), None),
+    ("smtpd -p 192.0.2.9 -c=d -m mail", Some("mail"), None),
+    ("smtpd -c e -p 192.0.2.9 -m mail", Some("mail"), None),
+    (
+        "smtpd -c d/ -p 192.0.2.9 -m mail -l log",
+        Some("mail"),
+        Some("log"),
+    ),
+    ("smtpd -c @ -p 192.0.2.9 -m mail", Some("mail"), None),
+    ("smtpd -c. -p 192.0.2.9 -m mail", Some("mail"), None),
+    (
+        "smtpd -l log -p 10.1.2.3 -m mail",
+        Some("mail"),
+        Some("log"),
+    ),
+    ("smtpd -p 10.1.2.3 -llog -m mail", Some("mail"), Some("log")),
+    (
+        "smtpd -p 10.1.2.3 -m mail -l=log",
+        Some("mail"),
+        Some("log"),
+    ),
+    ("smtpd -p 10.1.2.3 -m mail -l -", Some("mail"), Some("-")),
+    ("smtpd -p 10.1.2.3 -m mail -l @", Some("mail"), Some("")),
+    ("smtpd -b 67 -p 10.1.2.3 -m mail", Some("mail"), None),
+    ("smtpd -p 10.1.2.3 -b67 -m mail", Some("mail"), None),
+    ("smtpd -p 10.1.2.3 -m mail -b=67", Some("mail"), None),
+    (
+        "smtpd -p 10.1.2.3 -m mail -b 4294967296",
+        Some("mail"),
+        None,
+    ),
+    ("smtpd -p 10.1.2.3 -m mail -b 1", Some("mail"), None),
+    (
+        "smtpd -c d -p 10.1.2.3 -m mail -l log -b 1000",
+        Some("mail"),
+        Some("log"),
+    ),
+    (
+        "smtpd -b=1000 -llog -m mail -p10.1.2.3 -c=d --",
+        Some("mail"),
+        Some("log"),
+    ),
+];
+
 #[test]
 fn sinks_have_their_names(rt: HostRuntime) -> Result<(), Fail> {
     let alloc = rt.alloc();
-    for (line, mail, log) in [
-        ("smtpd -p 1.2.3.4 -m mail", Some("mail"), None),
-        ("smtpd -l log -p 1.2.3.4 -m=", Some(""), Some("log")),
-        ("smtpd -p 1.2.3 -m mail -l log", None, None),
-        ("postconf -n mail", None, None),
-        ("@", None, None),
-    ] {
+    for (line, mail, log) in SINKS {
         let list = words(alloc, line)?;
         let names = sink_names(alloc, &list)?;
-        assert_eq!(rt; names.mail, mail);
-        assert_eq!(rt; names.log, log);
+        assert_eq!(rt; names.mail, *mail);
+        assert_eq!(rt; names.log, *log);
+    }
+    Ok(())
+}
+
+// The name of main.cf in a folder.
+fn name_in(alloc: Global, folder: &str) -> Result<Bytes, NoMemory> {
+    let folder = Some(Bytes::from_slice(alloc, folder.as_bytes())?);
+    conf_name(alloc, &folder)
+}
+
+#[test]
+fn main_cf_has_its_name(rt: HostRuntime) -> Result<(), Fail> {
+    let alloc = rt.alloc();
+    assert_eq!(rt; conf_name(alloc, &None)?.as_slice(), b"main.cf".as_slice());
+    for (folder, name) in [
+        ("d", "d/main.cf"),
+        ("", "/main.cf"),
+        ("a/b/", "a/b//main.cf"),
+    ] {
+        let seen = name_in(alloc, folder)?;
+        assert_eq!(rt; seen.as_slice(), name.as_bytes());
     }
     Ok(())
 }

@@ -1,0 +1,12 @@
+pub mod AtLemmas
+pub mod ByteLemmas
+pub mod Cases
+pub mod DomainLemmas
+pub mod LocalLemmas
+pub mod MailboxLemmas
+pub mod PathLemmas
+pub mod PrintedLemmas
+pub mod QuotedLemmas
+pub mod RouteLemmas
+pub mod Rows
+pub mod Runs

@@ -1,0 +1,137 @@
+-- Worked examples of the definitions, each by computation.
+use Rattle.std.proofs.Common.{◌≡◌, ◌∷◌, ℕ, List, [], Option, Some, None, refl, codes}
+use Rattle.std.specs.Prelude.{map}
+use Rattle.pf_addr.specs.Grammar.{IsSpelling, is_at_domain, is_literal_byte, is_name_byte, is_plain_byte, is_route}
+use Rattle.pf_addr.specs.Printed.{escaped, is_atom_byte, printed, printed_domain, printed_local}
+use Rattle.pf_addr.specs.Reading.{address_of, bare, bracketed, closed, domain_len, local_len, local_of, mailbox, mailbox_len, path, plain_len, reading, route_len}
+use Rattle.pf_addr.specs.declared.address.Address.{Address}
+use Rattle.pf_addr.specs.declared.address.Path.TheVariants.{Null, To}
+use Rattle.pf_addr.specs.declared.address.PathRead.{PathRead}
+use Rattle.pf_addr.proofs.PathLemmas.{reading_complete, reading_sound}
+
+abbrev address : List ℕ → List ℕ → Address
+address local domain = record { local = local; domain = domain }
+
+abbrev to : List ℕ → List ℕ → ℕ → Option PathRead
+to local domain end = Some (record { path = To (address local domain); end = end })
+
+-- texts that spell a path
+abbrev spellings : List (List ℕ)
+spellings =
+    codes "<>"
+    ∷ codes "  <> SIZE=1"
+    ∷ codes "<john@example.com>"
+    ∷ codes " <john@example.com> SIZE=10"
+    ∷ codes "<john@example.com>SIZE=10"
+    ∷ codes "john@example.com SIZE=10"
+    ∷ codes "postmaster"
+    ∷ codes "<postmaster>"
+    ∷ codes "<a@b@example.com>"
+    ∷ codes "<\"a b\\\"@c\"@[192.0.2.1]>"
+    ∷ codes "<\"\"@example.com>"
+    ∷ codes "<@one.test,@two.test:john@example.com>"
+    ∷ codes "<@a@example.com>"
+    ∷ codes "<a%b.test@example.com>"
+    ∷ codes "<john@[IPv6:2001:db8::1]>"
+    ∷ codes "<john@.example..com.>"
+    ∷ []
+
+abbrev paths : List (Option PathRead)
+paths =
+    Some (record { path = Null; end = 2 })
+    ∷ Some (record { path = Null; end = 4 })
+    ∷ to (codes "john") (codes "example.com") 18
+    ∷ to (codes "john") (codes "example.com") 19
+    ∷ to (codes "john") (codes "example.com") 18
+    ∷ to (codes "john") (codes "example.com") 16
+    ∷ to (codes "postmaster") [] 10
+    ∷ to (codes "postmaster") [] 12
+    ∷ to (codes "a@b") (codes "example.com") 17
+    ∷ to (codes "a b\"@c") (codes "[192.0.2.1]") 23
+    ∷ to [] (codes "example.com") 16
+    ∷ to (codes "john") (codes "example.com") 38
+    ∷ to (codes "@a") (codes "example.com") 16
+    ∷ to (codes "a%b.test") (codes "example.com") 22
+    ∷ to (codes "john") (codes "[IPv6:2001:db8::1]") 25
+    ∷ to (codes "john") (codes ".example..com.") 21
+    ∷ []
+
+spellings_are_read : map reading spellings ≡ paths
+unfolding reading path bracketed closed bare address_of domain_len local_len local_of mailbox mailbox_len plain_len route_len is_at_domain is_literal_byte is_name_byte is_plain_byte is_route
+spellings_are_read = refl
+
+-- texts that spell none
+abbrev no_spellings : List (List ℕ)
+no_spellings =
+    []
+    ∷ codes " "
+    ∷ codes "<"
+    ∷ codes ">"
+    ∷ codes "< >"
+    ∷ codes "<john@example.com"
+    ∷ codes "john@example.com>"
+    ∷ codes "< john@example.com>"
+    ∷ codes "<john@example.com >"
+    ∷ codes "<john@>"
+    ∷ codes "<@example.com>"
+    ∷ codes "<@one.test:>"
+    ∷ codes "<@one.test john@example.com>"
+    ∷ codes "<a@[b@c]>"
+    ∷ codes "<\"a\"b@example.com>"
+    ∷ codes "<\"a@example.com>"
+    ∷ codes "john(x)@example.com"
+    ∷ codes "a,b"
+    ∷ []
+
+abbrev nothing : List (List ℕ) → List (Option PathRead)
+nothing texts = map (λ text. None) texts
+
+no_spellings_are_not_read : map reading no_spellings ≡ nothing no_spellings
+unfolding reading path bracketed closed bare address_of domain_len local_len local_of mailbox mailbox_len plain_len route_len is_at_domain is_literal_byte is_name_byte is_plain_byte is_route
+no_spellings_are_not_read = refl
+
+-- the same in the words of the grammar
+reads_two_at_signs : reading (codes "<a@b@example.com>") ≡ to (codes "a@b") (codes "example.com") 17
+unfolding reading path bracketed closed bare address_of domain_len local_len local_of mailbox mailbox_len plain_len route_len is_at_domain is_literal_byte is_name_byte is_plain_byte is_route
+reads_two_at_signs = refl
+
+two_at_signs : IsSpelling (codes "<a@b@example.com>") (record { path = To (address (codes "a@b") (codes "example.com")); end = 17 })
+two_at_signs = reading_sound _ _ reads_two_at_signs
+
+reads_no_bracket : reading (codes "<john@example.com") ≡ None
+unfolding reading path bracketed closed bare address_of domain_len local_len local_of mailbox mailbox_len plain_len route_len is_at_domain is_literal_byte is_name_byte is_plain_byte is_route
+reads_no_bracket = refl
+
+no_bracket : (read : PathRead) → ¬ (IsSpelling (codes "<john@example.com") read)
+no_bracket read s = cc (reads_no_bracket, reading_complete _ read s)
+
+-- addresses and how they are printed
+abbrev addresses : List Address
+addresses =
+    address (codes "john") (codes "example.com")
+    ∷ address (codes "john") []
+    ∷ address [] (codes "example.com")
+    ∷ address [] []
+    ∷ address (codes "a b") (codes "example.com")
+    ∷ address (codes "a@b") (codes "example.com")
+    ∷ address (codes "\"\\") (codes "[192.0.2.1]")
+    ∷ address (codes ".a..b.") (codes "example.com")
+    ∷ address (codes "!#$%&'*+-/=?^_`{|}~") (codes "x")
+    ∷ []
+
+abbrev texts : List (List ℕ)
+texts =
+    codes "john@example.com"
+    ∷ codes "john"
+    ∷ codes "\"\"@example.com"
+    ∷ codes "\"\""
+    ∷ codes "\"a b\"@example.com"
+    ∷ codes "\"a@b\"@example.com"
+    ∷ codes "\"\\\"\\\\\"@[192.0.2.1]"
+    ∷ codes ".a..b.@example.com"
+    ∷ codes "!#$%&'*+-/=?^_`{|}~@x"
+    ∷ []
+
+addresses_are_printed : map printed addresses ≡ texts
+unfolding printed printed_local printed_domain escaped is_atom_byte
+addresses_are_printed = refl

@@ -1,0 +1,56 @@
+//! Addresses and paths (RFC 5321, 4.1.2).
+ghost use Rattle.std.specs.Prelude.{◌≡◌, IfOk};
+
+use pf_base::{Bytes, NoMemory};
+use std::alloc::{AllocError, Global};
+
+/// A mail address (RFC 5321, 4.1.2): its local part, without the quotes and backslashes of its spelling, and its domain, a
+/// name or a literal with its brackets, as it was given. An empty domain is none.
+#[derive(Debug, PartialEq, Eq, Drop)]
+pub struct Address {
+    pub local: Bytes,
+    pub domain: Bytes,
+}
+
+impl Address {
+    /// The same address again.
+    pub fn copy(&self, alloc: Global) -> Result<Address, NoMemory>
+        ensures { IfOk result (λ copy. copy ≡ self.now) }
+    {
+        Ok(Address {
+            local: self.local.copy(alloc)?,
+            domain: self.domain.copy(alloc)?,
+        })
+    }
+}
+
+/// A path (RFC 5321, 4.1.2). The source route that may stand in it is no part of it (RFC 5321, appendix C).
+#[derive(Debug, PartialEq, Eq, Drop)]
+pub enum Path {
+    /// `<>`, the sender of messages that nothing is to be returned for.
+    Null,
+    /// The path to an address.
+    To(Address),
+}
+
+/// A path that a text begins with, and where it ends: the number of bytes up to its last, space in front of it included.
+#[derive(Debug, PartialEq, Eq, Drop)]
+pub struct PathRead {
+    pub path: Path,
+    pub end: u64,
+}
+
+/// Why no path was read.
+#[derive(Clone, Copy, Debug, PartialEq, Eq)]
+pub enum PathFault {
+    /// The text begins with no path.
+    Malformed,
+    /// Memory was wanting.
+    NoMemory,
+}
+
+impl From<NoMemory> for PathFault {
+    fn from(_: NoMemory) -> PathFault {
+        PathFault::NoMemory
+    }
+}

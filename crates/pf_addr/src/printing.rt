@@ -1,0 +1,76 @@
+//! Addresses as they are printed.
+ghost use Rattle.std.specs.Prelude.{◌≡◌, ◌++◌, IfOk, OnOk};
+ghost use Rattle.std.specs.List.{flat_map, list_all};
+ghost use Rattle.pf_addr.specs.Grammar.{IsSpelling};
+ghost use Rattle.pf_addr.specs.Printed.{IsDomainOrNone};
+ghost use Rattle.pf_addr.specs.Printed as spec;
+
+use crate::address::Address;
+use crate::classes::is_atom_byte;
+use pf_base::{Bytes, NoMemory};
+use std::alloc::Global;
+
+fn has_atom_bytes(local: &[u8]) -> bool
+    ensures { result ≡ list_all spec.is_atom_byte local.now }
+{
+    local.iter().all(|b| is_atom_byte(*b))
+}
+
+// Adds the content of a quoted string.
+fn push_content(local: &[u8], text: &mut Bytes) -> Result<(), NoMemory>
+    ensures { OnOk result (text.new ≡ text.old ++ flat_map spec.escaped local.now) }
+{
+    for b in local {
+        push_escaped(*b, text)?;
+    }
+    Ok(())
+}
+
+// Adds a byte, behind a backslash where it needs one.
+#[tactic(auto, unfolding(crate::specs::Printed::escaped))]
+fn push_escaped(b: u8, text: &mut Bytes) -> Result<(), NoMemory>
+    ensures { OnOk result (text.new ≡ text.old ++ spec.escaped b) }
+{
+    if b == b'"' || b == b'\\' {
+        text.extend(&[b'\\', b])
+    } else {
+        text.push(b)
+    }
+}
+
+#[tactic(auto, unfolding(crate::specs::Printed::printed_local))]
+fn push_local(local: &[u8], text: &mut Bytes) -> Result<(), NoMemory>
+    ensures { OnOk result (text.new ≡ text.old ++ spec.printed_local local.now) }
+{
+    if 0 < local.len() && has_atom_bytes(local) {
+        return text.extend(local);
+    }
+    text.push(b'"')?;
+    push_content(local, text)?;
+    text.push(b'"')
+}
+
+#[tactic(auto, unfolding(crate::specs::Printed::printed_domain))]
+fn push_domain(domain: &[u8], text: &mut Bytes) -> Result<(), NoMemory>
+    ensures { OnOk result (text.new ≡ text.old ++ spec.printed_domain domain.now) }
+{
+    if domain.is_empty() {
+        Ok(())
+    } else {
+        text.extend_all(&[b"@", domain])
+    }
+}
+
+/// An address as it is printed: its local part, in quotes where it is empty or has a byte that is neither an atom's nor a
+/// dot (RFC 5322, 3.2.3), and behind an at sign its domain, where there is one. What is printed is a path whose address it
+/// is, if the domain is one of the grammar.
+#[tactic(auto, unfolding(crate::specs::Printed::printed))]
+pub fn print(alloc: Global, address: &Address) -> Result<Bytes, NoMemory>
+    ensures form { IfOk result (λ text. text ≡ spec.printed address.now) }
+    ensures spells { IsDomainOrNone address.now.domain → IfOk result (λ text. IsSpelling text (spec.read_again address.now)) }
+{
+    let mut text = Bytes::new(alloc);
+    push_local(address.local.as_slice(), &mut text)?;
+    push_domain(address.domain.as_slice(), &mut text)?;
+    Ok(text)
+}

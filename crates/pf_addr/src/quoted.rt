@@ -1,0 +1,50 @@
+//! Quoted strings of local parts (RFC 5321, 4.1.2).
+ghost use Rattle.std.specs.Prelude.{◌≡◌, ◌<◌, ◌==◌, ◌&&◌, length, false, not, IfOk, IfSome};
+ghost use Rattle.pf_addr.specs.Reading as reading;
+
+use pf_base::{Bytes, NoMemory};
+use std::alloc::Global;
+
+// Whether a byte ends a quoted string; taken says that a backslash stands in front of it.
+fn is_closing(taken: bool, b: u8) -> bool
+    ensures { result ≡ (not taken && b == 34) }
+{
+    !taken && b == b'"'
+}
+
+// Whether a byte is a backslash that takes the next byte.
+fn takes_next(taken: bool, b: u8) -> bool
+    ensures { result ≡ (not taken && b == 92) }
+{
+    !taken && b == b'\\'
+}
+
+// The place of the quote that closes the string whose first quote stands in front of a text.
+pub(crate) fn closing_quote(text: &[u8]) -> Option<usize>
+    ensures within { IfSome result (λ n. n < length text.now) }
+    ensures place { result ≡ reading.closing_quote false text.now }
+{
+    let mut taken = false;
+    for (i, b) in text.iter().enumerate() {
+        if is_closing(taken, *b) {
+            return Some(i);
+        }
+        taken = takes_next(taken, *b);
+    }
+    None
+}
+
+// The content of a quoted string without its backslashes.
+pub(crate) fn unquoted(alloc: Global, content: &[u8]) -> Result<Bytes, NoMemory>
+    ensures { IfOk result (λ bytes. bytes ≡ reading.unquoted false content.now) }
+{
+    let mut bytes = Bytes::new(alloc);
+    let mut taken = false;
+    for b in content {
+        taken = takes_next(taken, *b);
+        if !taken {
+            bytes.push(*b)?;
+        }
+    }
+    Ok(bytes)
+}

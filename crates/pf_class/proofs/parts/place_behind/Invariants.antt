@@ -1,0 +1,12 @@
+use Rattle.std.proofs.Common.{◌≡◌, ◌≤◌, ◌+◌, length, take}
+use Rattle.std.specs.Prelude.{◌==◌, not}
+use Rattle.std.specs.List.{suffix_len}
+use Rattle.pf_class.proofs.parts.place_behind.Given as goal
+
+abbrev pub invariant-loop-end : goal.invariant-loop-end
+invariant-loop-end l =
+    (l.end ≤ length l.text)
+    × (l.end + suffix_len (λ b. not (b == l.byte)) l.text ≡ length l.text + suffix_len (λ b. not (b == l.byte)) (take l.end l.text))
+
+abbrev pub decreases-loop-end : goal.decreases-loop-end
+decreases-loop-end l = l.end
