@@ -1,5 +1,5 @@
 -- A line of the log is one line.
-use Rattle.std.proofs.Common.{◌≡◌, ◌≢◌, ◌<◌, ℕ, Bool, true, false, List, [], ◌∷◌, ◌++◌, length, get_or, refl, arith, zero, suc, if◌then◌else◌, ltb, eqb}
+use Rattle.std.proofs.Common.{◌≡◌, ◌≢◌, ℕ, Bool, true, false, List, [], ◌∷◌, refl, arith, zero, suc, if◌then◌else◌}
 use Rattle.std.proofs.lemmas.Bool.{ltb-false}
 use Rattle.std.specs.Prelude.{◌||◌, nat_lt, ◌==◌}
 use Rattle.pf_base.proofs.LineEnds.{HasNoFeed, lines_at_feed}

@@ -1,5 +1,5 @@
 -- The causes of a status, by the texts that were said last.
-use Rattle.std.proofs.Common.{◌≡◌, ℕ, Bool, true, false, zero, suc, List, [], ◌∷◌, Result, Ok, Err, inl, inr, take, ap, subst, refl, ◌∙◌}
+use Rattle.std.proofs.Common.{◌≡◌, ℕ, true, zero, suc, List, [], ◌∷◌, Result, Ok, Err, inl, inr, take, ap, subst, refl, ◌∙◌}
 use Rattle.std.specs.Prelude.{⊤}
 use Rattle.std.specs.Io.KnownBytes.{append_known}
 use Rattle.pf_base.proofs.ToldLemmas.{append_known-nil}
@@ -7,7 +7,7 @@ use Rattle.pf_base.specs.Causes.{counted}
 use Rattle.pf_base.specs.Objects.{Objects, Says, Sinks, StopsBy, sink_status, status_of}
 use Rattle.pf_base.specs.Statuses.{Counts, HasCauses, NoneRose, counts_of, is_among, without_fault}
 use Rattle.pf_base.specs.Told.{Output, Tree, HoldsFront}
-use Rattle.pf_base.specs.declared.status.TheConstants.{AT_BUDGET, DONE, FILES_FAILED, NO_MEMORY, REFUSED, USAGE, WARNED}
+use Rattle.pf_base.specs.declared.status.TheConstants.{DONE, FILES_FAILED, NO_MEMORY, REFUSED, USAGE, WARNED}
 use Rattle.pf_base.specs.declared.texts.SinkFault.{SinkFault}
 use Rattle.pf_base.specs.declared.texts.SinkFault.TheVariants as fault
 use Rattle.pf_base.specs.declared.texts.Texts.{Texts}

@@ -1,5 +1,5 @@
 -- What an object told, over several calls.
-use Rattle.std.proofs.Common.{◌≡◌, ◌+◌, List, [], ◌++◌, ℕ, Option, Some, None, length, refl, sym, ap, subst, ◌∙◌, arith, inl, append_assoc, append-nil, length-append}
+use Rattle.std.proofs.Common.{◌≡◌, List, [], ◌++◌, ℕ, Option, Some, None, refl, sym, ap, ◌∙◌, arith, inl, append_assoc, append-nil, length-append}
 use Rattle.pf_base.specs.Objects.{Sinks, StopsBy, appended, joined}
 use Rattle.pf_base.specs.Told.{HoldsFront, Input, Output, Takes, wrote}
 use Rattle.pf_base.specs.declared.texts.SinkFault.TheVariants as fault

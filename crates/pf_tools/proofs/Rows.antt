@@ -1,5 +1,5 @@
 -- Worked examples of the definitions, each by computation.
-use Rattle.std.proofs.Common.{◌≡◌, ℕ, ◌++◌, true, false, List, [], ◌∷◌, map, length, Option, None, Some, Ok, Err, refl, codes}
+use Rattle.std.proofs.Common.{◌≡◌, ℕ, true, false, List, [], ◌∷◌, map, length, None, Some, Ok, Err, refl, codes}
 use Rattle.std.specs.Fmt.{digits}
 use Rattle.std.specs.Str.{chars, is_utf8}
 use Rattle.pf_base.specs.Printing.{printed_line}
@@ -23,6 +23,7 @@ use Rattle.pf_tools.specs.Course.{Course, bytes_in, conf_name, course_status, lo
 use Rattle.pf_tools.specs.Course.{Course as course}
 use Rattle.pf_tools.specs.Order.{in_order}
 use Rattle.pf_tools.specs.Printed.{line_text, lines_of}
+use Rattle.pf_tools.specs.Run.{statuses_by}
 use Rattle.pf_tools.specs.Said.{edited_by, file_said, printed, printed_of}
 use Rattle.pf_tools.specs.Values.{line_in, value_shown}
 use Rattle.pf_tools.specs.declared.said.Said.TheVariants.{Edited, Printed}
@@ -162,6 +163,10 @@ courses = course.prints (codes "a = 1\n") [] ∷ course.prints [] (codes "w\n") 
 
 statuses : map course_status courses ≡ 0 ∷ 1 ∷ 0 ∷ 3 ∷ 8 ∷ 8 ∷ 9 ∷ 9 ∷ []
 statuses = refl
+
+statuses_of_answers : map statuses_by (Ok (Printed (codes "a = 1\n") []) ∷ Ok (Printed [] (codes "w\n")) ∷ Ok (Edited []) ∷ Err (Refused (record { file = file; line = 2; cause = C2; name = [] })) ∷ [])
+    ≡ (0 ∷ 9 ∷ []) ∷ (1 ∷ 9 ∷ []) ∷ (0 ∷ 9 ∷ []) ∷ (3 ∷ 9 ∷ []) ∷ []
+statuses_of_answers = refl
 
 outputs : map output_of courses ≡ codes "a = 1\n" ∷ [] ∷ [] ∷ [] ∷ [] ∷ [] ∷ [] ∷ [] ∷ []
 outputs = refl

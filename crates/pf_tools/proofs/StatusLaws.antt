@@ -1,9 +1,9 @@
 -- The status of a run of postconf by its course.
-use Rattle.std.proofs.Common.{◌≡◌, ℕ, true, List, [], ◌∷◌, Option, Some, Result, Ok, Err, inl, inr, refl, sym, subst}
+use Rattle.std.proofs.Common.{◌≡◌, ℕ, true, List, [], ◌∷◌, Option, Some, Result, Ok, Err, inl, inr, refl}
 use Rattle.std.specs.Prelude.{⊤}
 use Rattle.pf_base.proofs.StatusLemmas.{FilesCause, none_stopped, spoken}
 use Rattle.pf_base.specs.Objects.{Says, Sinks, status_of}
-use Rattle.pf_base.specs.Statuses.{Counts, HasCauses, NoneRose, is_among, without_fault}
+use Rattle.pf_base.specs.Statuses.{Counts, HasCauses, NoneRose, is_among}
 use Rattle.pf_base.specs.Told.{Tree}
 use Rattle.pf_base.specs.declared.pair.Pair.{Pair}
 use Rattle.pf_base.specs.declared.refused.ConfFault.{ConfFault}

@@ -5,10 +5,9 @@ use Rattle.std.specs.Str.{chars, is_utf8}
 use Rattle.pf_base.specs.Printing.{printed_line}
 use Rattle.pf_base.specs.Refusal.{cause_text, refusal_line}
 use Rattle.pf_base.specs.Words.{words_of}
-use Rattle.pf_base.specs.declared.refused.Cause.TheVariants.{C2, C5, C6, C10, C14}
+use Rattle.pf_base.specs.declared.refused.Cause.TheVariants.{C2, C5, C10, C14}
 use Rattle.pf_base.specs.declared.refused.ConfFault.{ConfFault}
 use Rattle.pf_base.specs.declared.refused.ConfFault.TheVariants as conf_fault
-use Rattle.pf_base.specs.declared.refused.Refused.{Refused}
 use Rattle.pf_base.specs.declared.texts.SinkFault.TheVariants as sink
 use Rattle.pf_base.specs.declared.texts.Texts.{Texts}
 use Rattle.pf_catalogue.specs.Catalogue.{catalogue}
@@ -20,7 +19,6 @@ use Rattle.pf_expand.specs.Expansion.{parts, text_value}
 use Rattle.pf_expand.specs.Forms.{first_part, form_of}
 use Rattle.pf_expand.specs.Names.{name_value}
 use Rattle.pf_maincf.specs.Settings.{conf_of}
-use Rattle.pf_maincf.specs.declared.setting.Setting.{Setting}
 use Rattle.pf_params.specs.Classes.{class_of}
 use Rattle.pf_params.specs.Parameters.{reading_of}
 use Rattle.pf_params.specs.Settled.{Settled}
@@ -33,10 +31,10 @@ use Rattle.pf_smtp.specs.Text.{accepted_text, denied_text, greeting_of, helo_tex
 use Rattle.pf_tools.specs.Course.{bytes_in, failed_line}
 use Rattle.pf_top.specs.Nets.{net_of, net_with}
 use Rattle.pf_top.specs.Opening.{opening_of, reading_named, setup_of}
-use Rattle.pf_top.specs.Profile.{cause_from, first_refused, is_within, parameter_refusal}
-use Rattle.pf_top.specs.Refusals.{file_opened, names_refusal, relay_refusal, settings_refusal}
+use Rattle.pf_top.specs.Profile.{cause_from, is_within, parameter_refusal}
+use Rattle.pf_top.specs.Refusals.{file_opened, relay_refusal, settings_refusal}
 use Rattle.pf_top.specs.Run.{usage_line}
-use Rattle.pf_top.specs.Smtpd.{course_status, talk_status}
+use Rattle.pf_top.specs.Smtpd.{course_status, statuses_by, talk_status}
 use Rattle.pf_top.specs.Smtpd.{Course as course}
 use Rattle.pf_top.specs.Talk.{speech_of}
 use Rattle.pf_top.specs.Values.{closed_list, host_of, hosts_of, is_closing, nets_of, one_or_more, relay_of, restriction_of}
@@ -269,3 +267,6 @@ statuses_of_sessions = refl
 
 statuses_of_courses : map course_status (course.talks site (Ok ended.AtEnd) ∷ course.unread (Ok tt) ∷ course.unread (Err sink.Log) ∷ course.starves ∷ []) ≡ 0 ∷ 8 ∷ 7 ∷ 9 ∷ []
 statuses_of_courses = refl
+
+statuses_of_openings : map statuses_by (Ok site ∷ Err (conf_fault.Refused (record { file = codes "main.cf"; line = 2; cause = C2; name = [] })) ∷ []) ≡ (0 ∷ 10 ∷ 9 ∷ []) ∷ (3 ∷ 9 ∷ []) ∷ []
+statuses_of_openings = refl

@@ -7,7 +7,7 @@ use Rattle.pf_base.proofs.StatusLemmas.{counts_same, kept_causes, none_stopped, 
 use Rattle.pf_base.proofs.ToldLemmas.{append_known-nil}
 use Rattle.pf_base.specs.Causes.{counted}
 use Rattle.pf_base.specs.Objects.{Objects, Streams, log_text, out_text, sink_status, status_of}
-use Rattle.pf_base.specs.Statuses.{Counts, HasCauses, NoneRose, counts_of, is_among}
+use Rattle.pf_base.specs.Statuses.{HasCauses, NoneRose, counts_of, is_among}
 use Rattle.pf_base.specs.declared.pair.Pair.{Pair}
 use Rattle.pf_base.specs.declared.refused.ConfFault.{ConfFault}
 use Rattle.pf_base.specs.declared.refused.ConfFault.TheVariants as conf

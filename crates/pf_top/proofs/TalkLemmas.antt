@@ -1,5 +1,5 @@
 -- Pieces that pass from the input to a session, and what is said for them.
-use Rattle.std.proofs.Common.{◌≡◌, ℕ, ◌+◌, ◌<◌, ◌≤◌, Bool, true, false, List, [], ◌++◌, Result, Ok, Err, inr, refl, sym, ap, subst, ◌∙◌, arith, if◌then◌else◌, length-append, append_assoc}
+use Rattle.std.proofs.Common.{◌≡◌, ℕ, ◌+◌, ◌<◌, ◌≤◌, Bool, true, false, List, [], ◌++◌, Result, Ok, Err, inr, refl, sym, ap, subst, ◌∙◌, arith, if◌then◌else◌, length-append}
 use Rattle.std.proofs.Math.Path.{fun_ext}
 use Rattle.std.specs.Io.KnownBytes.{IsAtEnd}
 use Rattle.pf_base.proofs.ToldLemmas.{appended_more, takes_more, takes_none}

@@ -1,5 +1,5 @@
 use Rattle.std.proofs.Common.{Err, ap}
-use Rattle.pf_tools.proofs.FileLaws.{absent, large, no_name, text_there}
+use Rattle.pf_tools.proofs.FileLaws.{large, no_name, text_there}
 use Rattle.pf_tools.proofs.file.conf_text.Goals as goal
 
 pub returns-in_default-clause-told : goal.returns-in_default-clause-told

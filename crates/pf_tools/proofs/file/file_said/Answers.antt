@@ -1,4 +1,3 @@
-use Rattle.std.proofs.Common.{Err, ap}
 use Rattle.pf_tools.proofs.FileLaws.{goes_through}
 use Rattle.pf_tools.specs.Course.{bytes_in}
 use Rattle.pf_tools.specs.Said.{conf_text, text_said}

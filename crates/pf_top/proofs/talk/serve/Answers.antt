@@ -1,6 +1,6 @@
 use Rattle.std.proofs.Common.{length-take, ap, arith}
 use Rattle.pf_base.specs.Objects.{sinks, streams}
-use Rattle.pf_top.proofs.TalkLemmas.{budget_here, cut_here, ends_here, over_here, passed_more, passed_none, short_here, talked_fault}
+use Rattle.pf_top.proofs.TalkLemmas.{budget_here, ends_here, over_here, passed_more, passed_none, talked_fault}
 use Rattle.pf_top.proofs.talk.serve.Goals as goal
 
 pub turns-init : goal.turns-init

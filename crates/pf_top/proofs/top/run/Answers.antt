@@ -1,4 +1,4 @@
-use Rattle.std.proofs.Common.{sym, refl, ap, subst, ◌∙◌}
+use Rattle.std.proofs.Common.{refl}
 use Rattle.pf_base.specs.Objects.{objects}
 use Rattle.pf_top.proofs.RunLemmas.{nothing_left, postconf_left, smtpd_left, unformed_left}
 use Rattle.pf_top.proofs.StatusLemmas.{said_usage}
