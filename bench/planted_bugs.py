@@ -203,6 +203,9 @@ BUGS = [
     ('pf_maincf', 'new_names_are_lost', 'edit', 'edited_text',
      '    add_missing(&mut edited, placed.as_slice())?;\n',
      ''),
+    ('pf_catalogue', 'codes_begin_one_lower', 'value', 'value_of',
+     'const LEAST_CODE: u32 = 400;',
+     'const LEAST_CODE: u32 = 399;'),
     ('pf_catalogue', 'tables_come_behind_one_that_is_wanting', 'tables', 'add_all',
      '    for item in items {\n        add(alloc, specs, line, item.as_slice())?;\n    }\n    Ok(())',
      '    let mut done = Ok(());\n    for item in items {\n        if add(alloc, specs, line, item.as_slice()).is_err() {\n'
