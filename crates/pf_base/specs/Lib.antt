@@ -2,6 +2,7 @@ pub mod Braces
 pub mod Causes
 pub mod FileList
 pub mod FileParts
+pub mod Fronts
 pub mod Gathering
 pub mod Heard
 pub mod Led

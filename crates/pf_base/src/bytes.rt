@@ -5,6 +5,7 @@ ghost use Rattle.std.specs.Hash as fed;
 ghost use Rattle.std.specs.Cmp.Rules.{comparing, hashing};
 ghost use Rattle.std.proofs.Common.{rules};
 ghost use lib.Pointwise.{pointwise};
+ghost use Rattle.pf_base.specs.Fronts.{AddsFront};
 
 use crate::fault::NoMemory;
 use std::alloc::Global;
@@ -114,7 +115,8 @@ impl Bytes {
 
     /// Adds the parts in turn at the end. Where there is no memory, a front of them may have been added.
     pub fn extend_all(&mut self, parts: &[&[u8]]) -> Result<(), NoMemory>
-        ensures { OnOk result (self.new ≡ self.old ++ flat_map (λ part. part.now) parts.now) }
+        ensures ok { OnOk result (self.new ≡ self.old ++ flat_map (λ part. part.now) parts.now) }
+        ensures err { OnErr result (AddsFront self.old self.new (flat_map (λ part. part.now) parts.now)) }
     {
         for part in parts {
             self.extend(part)?;

@@ -1,3 +1,4 @@
+mod AddingLemmas
 mod NumberLaws
 mod Rows
 mod TableLaws

@@ -1,5 +1,5 @@
 -- The values of parameters (postconf(5)): what a text says, or None where it is none of the values of its kind.
-use Rattle.std.specs.Prelude.{ℕ, Bool, true, false, List, Option, None, Some, Result, Ok, Err, codes, if◌then◌else◌}
+use Rattle.std.specs.Prelude.{ℕ, ◌≤◌, Bool, true, false, List, Option, None, Some, Result, Ok, Err, codes, if◌then◌else◌}
 use Rattle.std.specs.List.{list_all}
 use Rattle.std.specs.Option.{option_map}
 use Rattle.std.specs.Str.{bytes_eq}
@@ -30,13 +30,25 @@ yes_or_no text =
 abbrev pub fixed_yes : List ℕ → Option Value
 fixed_yes text = if bytes_eq text (codes "yes") then Some Text else None
 
--- items that may stand in a list of a kind; those of other kinds may be any
+-- items that may stand in a list of a kind; a kind that is no list has none
 abbrev pub are_items : Kind → List (List ℕ) → Bool
+are_items kind.Text items = false
+are_items kind.Origin items = false
+are_items (kind.Number least most) items = false
+are_items kind.Code items = false
+are_items kind.Yes items = false
 are_items kind.Maps items = has_no_file items
+are_items kind.Domains items = true
+are_items kind.Networks items = true
+are_items kind.Hosts items = true
+are_items kind.Restrictions items = true
 are_items kind.AddressKinds items = list_all is_address_kind items
 are_items kind.Extensions items = list_all is_extension_way items
+are_items kind.Interfaces items = true
 are_items kind.RewriteClients items = are_rewrite_clients false items
-are_items k items = true
+are_items kind.Names items = true
+are_items kind.FixedYes items = false
+are_items kind.Unset items = false
 
 -- the items of a list, if each brace has its partner
 abbrev pub list_of : Kind → Result (List (List ℕ)) WordsFault → Option Value
@@ -46,13 +58,49 @@ list_of k (Err fault) = None
 abbrev pub list : Kind → List ℕ → Option Value
 list k text = list_of k (words_of text)
 
+-- the codes of replies that refuse (RFC 5321, 4.2.1)
+abbrev pub least_code : ℕ
+least_code = 400
+
+abbrev pub greatest_code : ℕ
+greatest_code = 599
+
+-- a number that a kind has
+abbrev pub IsNumberOf : Kind → ℕ → Type 0
+IsNumberOf kind.Text n = ⊥
+IsNumberOf kind.Origin n = ⊥
+IsNumberOf (kind.Number least most) n = (least ≤ n) × (n ≤ most)
+IsNumberOf kind.Code n = (least_code ≤ n) × (n ≤ greatest_code)
+IsNumberOf kind.Yes n = ⊥
+IsNumberOf kind.Maps n = ⊥
+IsNumberOf kind.Domains n = ⊥
+IsNumberOf kind.Networks n = ⊥
+IsNumberOf kind.Hosts n = ⊥
+IsNumberOf kind.Restrictions n = ⊥
+IsNumberOf kind.AddressKinds n = ⊥
+IsNumberOf kind.Extensions n = ⊥
+IsNumberOf kind.Interfaces n = ⊥
+IsNumberOf kind.RewriteClients n = ⊥
+IsNumberOf kind.Names n = ⊥
+IsNumberOf kind.FixedYes n = ⊥
+IsNumberOf kind.Unset n = ⊥
+
 -- what a text says
 abbrev pub value_of : Kind → List ℕ → Option Value
 value_of kind.Text text = Some Text
-value_of kind.Unset text = Some Text
 value_of kind.Origin text = origin text
 value_of (kind.Number least most) text = number least most text
-value_of kind.Code text = number 400 599 text
+value_of kind.Code text = number least_code greatest_code text
 value_of kind.Yes text = yes_or_no text
+value_of kind.Maps text = list kind.Maps text
+value_of kind.Domains text = list kind.Domains text
+value_of kind.Networks text = list kind.Networks text
+value_of kind.Hosts text = list kind.Hosts text
+value_of kind.Restrictions text = list kind.Restrictions text
+value_of kind.AddressKinds text = list kind.AddressKinds text
+value_of kind.Extensions text = list kind.Extensions text
+value_of kind.Interfaces text = list kind.Interfaces text
+value_of kind.RewriteClients text = list kind.RewriteClients text
+value_of kind.Names text = list kind.Names text
 value_of kind.FixedYes text = fixed_yes text
-value_of k text = list k text
+value_of kind.Unset text = Some Text

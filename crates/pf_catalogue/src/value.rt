@@ -9,6 +9,11 @@ use crate::numbers::number_within;
 use pf_base::{Bytes, List, NoMemory, WordsFault, same_in_any_case, words_of};
 use std::alloc::Global;
 
+// The codes of replies that refuse (RFC 5321, 4.2.1).
+const LEAST_CODE: u32 = 400;
+
+const GREATEST_CODE: u32 = 599;
+
 /// What the text of a parameter says: a text as it stands, a number, yes or no, or the items of a list.
 #[derive(Debug, Drop)]
 pub enum Value {
@@ -68,7 +73,19 @@ fn are_items(kind: Kind, items: &[Bytes]) -> bool
         Kind::AddressKinds => are_address_kinds(items),
         Kind::Extensions => are_extension_ways(items),
         Kind::RewriteClients => are_rewrite_clients(items),
-        _ => true,
+        Kind::Domains
+        | Kind::Networks
+        | Kind::Hosts
+        | Kind::Restrictions
+        | Kind::Interfaces
+        | Kind::Names => true,
+        Kind::Text
+        | Kind::Origin
+        | Kind::Number { .. }
+        | Kind::Code
+        | Kind::Yes
+        | Kind::FixedYes
+        | Kind::Unset => false,
     }
 }
 
@@ -93,13 +110,21 @@ pub fn value_of(alloc: Global, kind: Kind, text: &[u8]) -> Result<Option<Value>,
     ensures { IfOk result (λ value. value ≡ spec.value_of kind text.now) }
 {
     match kind {
-        Kind::Text => Ok(Some(Value::Text)),
-        Kind::Unset => Ok(Some(Value::Text)),
+        Kind::Text | Kind::Unset => Ok(Some(Value::Text)),
         Kind::Origin => Ok(origin(text)),
         Kind::Number { least, most } => Ok(number(least, most, text)),
-        Kind::Code => Ok(number(400, 599, text)),
+        Kind::Code => Ok(number(LEAST_CODE, GREATEST_CODE, text)),
         Kind::Yes => Ok(yes_or_no(text)),
         Kind::FixedYes => Ok(fixed_yes(text)),
-        _ => list(alloc, kind, text),
+        Kind::Maps
+        | Kind::Domains
+        | Kind::Networks
+        | Kind::Hosts
+        | Kind::Restrictions
+        | Kind::AddressKinds
+        | Kind::Extensions
+        | Kind::Interfaces
+        | Kind::RewriteClients
+        | Kind::Names => list(alloc, kind, text),
     }
 }

@@ -1,5 +1,5 @@
 //! Names with what they stand for.
-ghost use Rattle.std.specs.Prelude.{◌≡◌, ℕ, List as Seq, [], length, slice_get, IfOk, OnOk};
+ghost use Rattle.std.specs.Prelude.{◌≡◌, ℕ, List as Seq, [], length, slice_get, IfOk, OnOk, OnErr};
 ghost use Rattle.std.specs.Map.{keys_of};
 ghost use Rattle.std.specs.Option.{option_copied};
 ghost use Rattle.pf_expand.specs.Meanings as spec;
@@ -60,7 +60,8 @@ impl Names {
 
     // Lets a name mean this and nothing that it meant before.
     fn set(&mut self, name: Bytes, meaning: Meaning) -> Result<(), NoMemory>
-        ensures { OnOk result (self.new ≡ spec.with_meaning self.old name meaning) }
+        ensures ok { OnOk result (self.new ≡ spec.with_meaning self.old name meaning) }
+        ensures err { OnErr result (self.new ≡ self.old) }
     {
         match self.meanings.insert(name, meaning) {
             Ok(_) => Ok(()),
@@ -68,18 +69,20 @@ impl Names {
         }
     }
 
-    /// Lets a name stand for a text, and for nothing that it stood for before.
+    /// Lets a name stand for a text, and for nothing that it stood for before. Where there is no memory nothing changes.
     pub fn set_text(&mut self, alloc: Global, name: &[u8], text: &[u8]) -> Result<(), NoMemory>
-        ensures { OnOk result ((sources : Seq ℕ → Source) → spec.AreNames self.old sources → spec.AreNames self.new (with_source sources name.now (Source.text text.now))) }
+        ensures ok { OnOk result ((sources : Seq ℕ → Source) → spec.AreNames self.old sources → spec.AreNames self.new (with_source sources name.now (Source.text text.now))) }
+        ensures err { OnErr result (self.new ≡ self.old) }
     {
         let meaning = text_meaning(alloc, text)?;
         self.set(Bytes::from_slice(alloc, name)?, meaning)
     }
 
     /// Lets a name stand for the domain in the value of another name: what stands past the first dot of it, `localdomain`
-    /// where it has none (postconf(5), mydomain).
+    /// where it has none (postconf(5), mydomain). Where there is no memory nothing changes.
     pub fn set_domain(&mut self, alloc: Global, name: &[u8], host: &[u8]) -> Result<(), NoMemory>
-        ensures { OnOk result ((sources : Seq ℕ → Source) → spec.AreNames self.old sources → spec.AreNames self.new (with_source sources name.now (Source.domain host.now))) }
+        ensures ok { OnOk result ((sources : Seq ℕ → Source) → spec.AreNames self.old sources → spec.AreNames self.new (with_source sources name.now (Source.domain host.now))) }
+        ensures err { OnErr result (self.new ≡ self.old) }
     {
         let meaning = Meaning::DomainOf(Bytes::from_slice(alloc, host)?);
         self.set(Bytes::from_slice(alloc, name)?, meaning)

@@ -1,17 +1,16 @@
 -- The law of the edit: the edited text is read, each set name has its value, and each other name the value that it had.
 use Rattle.std.proofs.Common.{◌≡◌, ℕ, ◌+◌, true, List, [], ◌∷◌, ◌++◌, Some, None, Option, Result, Ok, Err, refl, sym, ap, subst, ◌∙◌, arith, eqb}
 use Rattle.std.specs.Prelude.{map}
-use Rattle.std.specs.List.{find, list_all}
-use Rattle.std.specs.Option.{option_map, option_or}
-use Rattle.std.specs.Str.{bytes_eq}
+use Rattle.std.specs.List.{list_all}
+use Rattle.std.specs.Option.{option_map}
 use Rattle.pf_base.specs.Lines.{without_return}
 use Rattle.pf_base.specs.Logical.{Grouped, Physical, alone, grouped, is_ignored, numbered, physical_lines, starts_with_space, unless_ignored}
 use Rattle.pf_base.specs.declared.logical.Logical.{Logical}
 use Rattle.pf_base.specs.declared.refused.ConfFault.{ConfFault}
-use Rattle.pf_maincf.specs.Edit.{AreSets, edited, edited_in, edited_lines, edited_text, is_set, placed}
+use Rattle.pf_maincf.specs.Edit.{AreSets, IsEditOf, edited, edited_in, edited_lines, edited_text, is_set, placed, set_at, value_of}
 use Rattle.pf_maincf.specs.Settings.{Conf, conf_of, last_setting}
 use Rattle.pf_maincf.specs.declared.setting.Setting.{Setting}
-use Rattle.pf_maincf.proofs.EditedLines.{AllSets, AreWritten, after, lines_appended, lines_edited, logical_after, none_leading, set_at}
+use Rattle.pf_maincf.proofs.EditedLines.{AllSets, AreWritten, after, lines_appended, lines_edited, logical_after, none_leading}
 use Rattle.pf_maincf.proofs.Ends.{either_option, either_way}
 use Rattle.pf_maincf.proofs.Entries.{IsRead, Says, is_read, plain, read_again, says_append, says_settings, settings_said}
 use Rattle.pf_maincf.proofs.Joined.{Texts, fold_line, joined, parts, texts_joined, then_texts}
@@ -88,12 +87,12 @@ edited_is_read file text sets old each r =
     let w = written old.settings sets each in
     let absent = all_missing old.settings sets each in
     let said = says_settings file g.logical old.settings r.settings in
-    let texts : joined (parts T) ≡ then_texts (after P 0 g) (record { leading = []; logical = map set_text (missing P) }) =
+    let texts : joined (parts T) ≡ then_texts (after P None g) (record { leading = []; logical = map set_text (missing P) }) =
     lines_appended (missing P) (edited_lines P text) absent
     ∙ ap (λ (t : Texts). then_texts t (record { leading = []; logical = map set_text (missing P) })) (lines_edited P text w) in
     let all = texts_joined 1 (parts T) ∙ texts in
     let none : map (λ (p : Physical). p.text) (grouped (physical_lines T)).leading ≡ [] =
-    ap (λ (t : Texts). t.leading) all ∙ rw r.leading (none_leading (set_at P 0)) in
+    ap (λ (t : Texts). t.leading) all ∙ rw r.leading (none_leading None) in
     let logical : map (λ (l : Logical). l.text) (grouped (physical_lines T)).logical ≡ map (logical_after P) g.logical ++ map set_text (missing P) =
     ap (λ (t : Texts). t.logical) all in
     let says = says_append (map (logical_after P) g.logical) (map set_text (missing P)) (map (put P) old.settings) (map plain (missing P))
@@ -106,27 +105,11 @@ edited_is_read file text sets old each r =
       settings = new.2;
     }
 
--- the value of a name
-abbrev pub value_of : List Setting → List ℕ → Option (List ℕ)
-value_of settings name = option_map (λ s. s.value) (last_setting settings name)
-
--- the value that a name is set to
-abbrev pub set_value : List Setting → List ℕ → Option (List ℕ)
-set_value sets name = option_map (λ s. s.value) (find (λ s. bytes_eq s.name name) sets)
-
 plain_value : (settings : List Setting) (name : List ℕ) → value_of (map plain settings) name ≡ value_of settings name
 plain_value settings name = rw (last_changed plain settings name (λ s is. refl)) (value (last_setting settings name)) where
   value : (o : Option Setting) → option_map (λ s. s.value) (option_map plain o) ≡ option_map (λ s. s.value) o
   value None = refl
   value (Some s) = refl
-
--- the text after an edit is read, and each name has the value that it is set to, or else the one that it had
-pub record IsEditOf (file text after : List ℕ) (sets : List Setting) : Type 0 where
-  pub old : Conf
-  pub new : Conf
-  pub before : conf_of file text ≡ Ok old
-  pub behind : conf_of file after ≡ Ok new
-  pub values : (name : List ℕ) → value_of new.settings name ≡ option_or (set_value sets name) (value_of old.settings name)
 
 law_of : (file text after : List ℕ) (sets : List Setting) (R : Result Conf ConfFault) → AreSets sets → conf_of file text ≡ R
     → edited_in sets text R ≡ Ok after → IsEditOf file text after sets

@@ -1,21 +1,19 @@
 -- The logical lines of a text whose lines are edited.
-use Rattle.std.proofs.Common.{◌≡◌, ℕ, arith, length, ◌+◌, ◌==◌, true, false, List, [], ◌∷◌, ◌++◌, Some, None, Option, refl, sym, ap, ◌∙◌, append_assoc, append-nil}
+use Rattle.std.proofs.Common.{◌≡◌, ℕ, arith, length, ◌+◌, true, false, List, [], ◌∷◌, ◌++◌, Some, None, Option, refl, sym, ap, ◌∙◌, append_assoc, append-nil}
 use Rattle.std.specs.Prelude.{map}
-use Rattle.std.specs.List.{find, flat_map, fold}
+use Rattle.std.specs.List.{fold}
 use Rattle.pf_base.specs.Lines.{lines, rest, without_return}
 use Rattle.pf_base.specs.Logical.{Physical, Grouped, alone, grouped, is_ignored, numbered, physical_lines, starts_with_space, unless_ignored}
 use Rattle.pf_base.specs.declared.logical.Logical.{Logical}
 use Rattle.pf_base.proofs.LineEnds.{lines-append, rest-append}
 use Rattle.std.proofs.lemmas.Bool.{eqb-true}
-use Rattle.pf_maincf.specs.Edit.{begun_at, edited_line, edited_lines, feed_behind, is_ended, marked, set_line, with_line}
+use Rattle.pf_maincf.specs.Edit.{Line, blocks_from, edited_lines, feed_behind, is_ended, set_at, set_line, with_line}
+use Rattle.pf_maincf.specs.Editing.{blocks_left, line_left, set_from}
 use Rattle.pf_maincf.specs.declared.setting.Setting.{Setting}
+use Rattle.pf_maincf.proofs.BlockLemmas.{left_more}
 use Rattle.pf_maincf.proofs.Ends.{IsClean, clean_lines, clean_rest, either_option, either_way, has_feed, lines_at, lines_none, rest_at, rest_none}
 use Rattle.pf_maincf.proofs.Joined.{Texts, fold_line, fold_text, joined, joined_append, parts, then_texts, unless_text_ignored}
 use Rattle.pf_maincf.proofs.SetLines.{IsSet, set_text, text_begins, text_feed, text_is_not_ignored, text_whole}
-
--- the set of a line
-abbrev pub set_at : List Setting → ℕ → Option Setting
-set_at sets line = find (λ set. set.line == line) sets
 
 -- each set has a line that one can write
 abbrev pub AreWritten : List Setting → Type 0
@@ -33,10 +31,9 @@ text_after (Some set) text = set_text set
 abbrev pub logical_after : List Setting → Logical → List ℕ
 logical_after sets l = text_after (set_at sets l.line) l.text
 
--- the lines from one on, behind lines the last of which stands in the logical line begun there
-abbrev pub after : List Setting → ℕ → Grouped → Texts
-after sets begun g =
-    record { leading = leading_after (set_at sets begun) (map (λ p. p.text) g.leading); logical = map (logical_after sets) g.logical }
+-- the lines from one on, behind lines the last of which stands in the logical line of this set
+abbrev pub after : List Setting → Option Setting → Grouped → Texts
+after sets set g = record { leading = leading_after set (map (λ p. p.text) g.leading); logical = map (logical_after sets) g.logical }
 
 parts_at : (line X : List ℕ) → has_feed line ≡ false → parts ((line ++ 10 ∷ []) ++ X) ≡ line ∷ parts X
 parts_at line X h = rw (append_assoc line (10 ∷ []) X, lines_at line X h, rest_at line X h)
@@ -59,26 +56,28 @@ none_leading (Some set) = refl
 abbrev Stays : List ℕ → List ℕ → List ℕ → Type 0
 Stays line feed X = joined (parts ((line ++ feed) ++ X)) ≡ unless_text_ignored (without_return line) (joined (parts X))
 
-one_more : (sets : List Setting) (begun number : ℕ) (line feed X : List ℕ) (g : Grouped) → AreWritten sets → Stays line feed X
-    → joined (parts X) ≡ after sets (begun_at begun number line) g
-    → joined (parts (edited_line sets (record { begun = begun_at begun number line; line = line; feed = feed }) ++ X))
-    ≡ after sets begun (unless_ignored (record { number = number; text = without_return line }) g)
-one_more sets begun number line feed X g written stays behind =
-    let p : Physical = record { number = number; text = without_return line } in
-    either_way (is_ignored (without_return line)) (λ h. rw h (stays ∙ rw h (rw h at behind))) (λ h.
-    either_way (starts_with_space (without_return line)) (λ k.
+one_more : (sets : List Setting) (set : Option Setting) (number : ℕ) (line : Line) (X : List ℕ) (g : Grouped) → AreWritten sets → Stays line.text line.feed X
+    → joined (parts X) ≡ after sets (set_from sets set number line.text) g
+    → joined (parts (line_left (set_from sets set number line.text) line ++ X))
+    ≡ after sets set (unless_ignored (record { number = number; text = without_return line.text }) g)
+one_more sets set number line X g written stays behind =
+    let text = without_return line.text in
+    let p : Physical = record { number = number; text = text } in
+    either_way (is_ignored text) (λ h. let here = rw h at behind in
+    either_option set (λ none. rw (h, none) (stays ∙ rw h (rw none at here))) (λ s is. rw (h, is) (stays ∙ rw h (rw is at here)))) (λ h.
+    either_way (starts_with_space text) (λ k.
     let here = rw (h, k) at behind in
-    either_option (set_at sets begun)
+    either_option set
     (λ none. rw (h, k, none) (stays ∙ rw (h, k)
-    (ap (λ (T : Texts). let U : Texts = record { leading = without_return line ∷ T.leading; logical = T.logical } in U) (rw none at here))))
-    (λ set is. rw (h, k, is, k) (rw is at here))) (λ k.
+    (ap (λ (T : Texts). let U : Texts = record { leading = text ∷ T.leading; logical = T.logical } in U) (rw none at here))))
+    (λ s is. rw (h, k, is) (rw is at here))) (λ k.
     let here = rw (h, k) at behind in
     let onto = λ (front : List ℕ) (T : Texts). let U : Texts = record { leading = []; logical = fold (λ front line. front ++ line) front T.leading ∷ T.logical } in U in
     either_option (set_at sets number)
-    (λ none. rw (h, k, fold_line (alone p) g.leading, fold_text (alone p) g.leading, none_leading (set_at sets begun), none)
-    (stays ∙ rw (h, k) (ap (onto (without_return line)) (rw none at here))))
-    (λ set is. rw (h, k, fold_line (alone p) g.leading, none_leading (set_at sets begun), is, k)
-    (set_before set X (written number set is) ∙ ap (onto (set_text set)) (rw is at here)))))
+    (λ none. rw (h, k, fold_line (alone p) g.leading, fold_text (alone p) g.leading, none_leading set, none)
+    (stays ∙ rw (h, k) (ap (onto text) (rw none at here))))
+    (λ s is. rw (h, k, fold_line (alone p) g.leading, none_leading set, is)
+    (set_before s X (written number s is) ∙ ap (onto (set_text s)) (rw is at here)))))
 
 stays_alone : (line : List ℕ) → has_feed line ≡ false → Stays line [] []
 stays_alone line h = rw (append-nil (line ++ []), append-nil line, parts_alone line h)
@@ -86,19 +85,28 @@ stays_alone line h = rw (append-nil (line ++ []), append-nil line, parts_alone l
 stays_before : (line X : List ℕ) → has_feed line ≡ false → Stays line (10 ∷ []) X
 stays_before line X h = rw (parts_at line X h)
 
-edited_from : (sets : List Setting) → AreWritten sets → (begun number : ℕ) (ls : List (List ℕ)) (last : List ℕ) → IsClean ls → has_feed last ≡ false
-    → joined (parts (flat_map (edited_line sets) (marked begun number ls last))) ≡ after sets begun (grouped (numbered number (ls ++ last ∷ [])))
-edited_from sets written begun number [] last clean feed =
-    one_more sets begun number last [] [] (record { leading = []; logical = [] }) written (stays_alone last feed)
-    (sym (ap (λ (l : List (List ℕ)). let T : Texts = record { leading = l; logical = [] } in T) (none_leading (set_at sets (begun_at begun number last)))))
-edited_from sets written begun number (line ∷ ls) last clean feed =
-    let X : List ℕ = flat_map (edited_line sets) (marked (begun_at begun number line) (number + 1) ls last) in
-    one_more sets begun number line (10 ∷ []) X (grouped (numbered (number + 1) (ls ++ last ∷ []))) written (stays_before line X clean.0)
-    (edited_from sets written (begun_at begun number line) (number + 1) ls last clean.1 feed)
+-- the lines with their line feeds, and the last one
+abbrev lines_with : List (List ℕ) → List ℕ → List Line
+lines_with ls last = map (λ line. record { text = line; feed = 10 ∷ [] }) ls ++ record { text = last; feed = [] } ∷ []
+
+edited_from : (sets : List Setting) → AreWritten sets → (set : Option Setting) (number : ℕ) (ls : List (List ℕ)) (last : List ℕ) → IsClean ls → has_feed last ≡ false
+    → joined (parts (blocks_left sets set (blocks_from number (lines_with ls last)))) ≡ after sets set (grouped (numbered number (ls ++ last ∷ [])))
+edited_from sets written set number [] last clean feed =
+    let line : Line = record { text = last; feed = [] } in
+    rw (left_more sets set number line (record { front = []; blocks = [] }))
+    (one_more sets set number line [] (record { leading = []; logical = [] }) written (stays_alone last feed)
+    (sym (ap (λ (l : List (List ℕ)). let T : Texts = record { leading = l; logical = [] } in T) (none_leading (set_from sets set number last)))))
+edited_from sets written set number (first ∷ ls) last clean feed =
+    let line : Line = record { text = first; feed = 10 ∷ [] } in
+    let behind = blocks_from (number + 1) (lines_with ls last) in
+    let here = set_from sets set number first in
+    rw (left_more sets set number line behind)
+    (one_more sets set number line (blocks_left sets here behind) (grouped (numbered (number + 1) (ls ++ last ∷ []))) written
+    (stays_before first (blocks_left sets here behind) clean.0) (edited_from sets written here (number + 1) ls last clean.1 feed))
 
 -- each logical line of an edited text is the one that was there, or the line of the set at it
-pub lines_edited : (sets : List Setting) (text : List ℕ) → AreWritten sets → joined (parts (edited_lines sets text)) ≡ after sets 0 (grouped (physical_lines text))
-lines_edited sets text written = edited_from sets written 0 1 (lines text) (rest text) (clean_lines text) (clean_rest text)
+pub lines_edited : (sets : List Setting) (text : List ℕ) → AreWritten sets → joined (parts (edited_lines sets text)) ≡ after sets None (grouped (physical_lines text))
+lines_edited sets text written = edited_from sets written None 1 (lines text) (rest text) (clean_lines text) (clean_rest text)
 
 -- sets that lines can say
 abbrev pub AllSets : List Setting → Type 0

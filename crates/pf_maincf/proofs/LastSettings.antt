@@ -8,10 +8,9 @@ use Rattle.std.proofs.lemmas.Bool.{eqb-true, eq-eqb, ne_eqb}
 use Rattle.std.proofs.lemmas.List.{reverse-append}
 use Rattle.std.proofs.lemmas.List.Folds.{find-append}
 use Rattle.std.proofs.lemmas.Slice.Eq.{bytes_eq-Decides}
-use Rattle.pf_maincf.specs.Edit.{differ, line_of, placed}
+use Rattle.pf_maincf.specs.Edit.{differ, line_of, placed, set_at}
 use Rattle.pf_maincf.specs.Settings.{last_setting}
 use Rattle.pf_maincf.specs.declared.setting.Setting.{Setting}
-use Rattle.pf_maincf.proofs.EditedLines.{set_at}
 use Rattle.pf_maincf.proofs.Ends.{either_option, either_way, or_left, or_right}
 use Rattle.pf_maincf.proofs.Entries.{plain}
 use Rattle.pf_maincf.proofs.SetLines.{and_left, and_right, not_true}

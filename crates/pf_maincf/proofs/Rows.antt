@@ -5,7 +5,7 @@ use Rattle.pf_base.specs.declared.logical.Logical.{Logical}
 use Rattle.pf_base.specs.declared.logical.TextFault.TheVariants.{Continuation, NoMemory as TextNoMemory}
 use Rattle.pf_base.specs.declared.refused.Cause.TheVariants.{C1, C2, C3}
 use Rattle.pf_base.specs.declared.refused.ConfFault.TheVariants.{Refused, NoMemory}
-use Rattle.pf_maincf.specs.Edit.{AreSets, differ, edited, is_ended, is_set, marked, placed, set_line}
+use Rattle.pf_maincf.specs.Edit.{AreSets, Line, blocks_from, differ, edited, edited_by, is_ended, is_set, lines_in, placed, set_line}
 use Rattle.pf_maincf.specs.Settings.{before, conf_of, conf_with, is_name, is_name_byte, last_setting, or_refused, refused, setting_of, settings_of, settings_of_lines}
 use Rattle.pf_maincf.specs.declared.setting.Setting.{Setting}
 
@@ -220,12 +220,22 @@ at_the_last_of_its_name = refl
 nowhere : placed (first ∷ second ∷ []) (set_to (codes "c") (codes "4")) ≡ record { line = 0; name = codes "c"; value = codes "4" }
 nowhere = refl
 
--- the lines of a text
-lines_marked : marked 0 1 (codes "# top" ∷ codes "a = 1" ∷ codes "\t2\r" ∷ codes " # mid" ∷ codes "b = 3" ∷ []) []
-    ≡ record { begun = 0; line = codes "# top"; feed = codes "\n" } ∷ record { begun = 2; line = codes "a = 1"; feed = codes "\n" }
-    ∷ record { begun = 2; line = codes "\t2\r"; feed = codes "\n" } ∷ record { begun = 2; line = codes " # mid"; feed = codes "\n" }
-    ∷ record { begun = 5; line = codes "b = 3"; feed = codes "\n" } ∷ record { begun = 5; line = []; feed = [] } ∷ []
-lines_marked = refl
+-- the logical lines of a text as they stand
+abbrev ended_by_a_feed : List ℕ → Line
+ended_by_a_feed text = record { text = text; feed = codes "\n" }
+
+lines_in_blocks : blocks_from 1 (lines_in (codes "# top\na = 1\n\t2\r\n # mid\nb = 3\n"))
+    ≡ record {
+      front = ended_by_a_feed (codes "# top") ∷ [];
+      blocks = record { line = 2; lines = ended_by_a_feed (codes "a = 1") ∷ ended_by_a_feed (codes "\t2\r") ∷ ended_by_a_feed (codes " # mid") ∷ [] }
+          ∷ record { line = 5; lines = ended_by_a_feed (codes "b = 3") ∷ record { text = []; feed = [] } ∷ [] } ∷ [];
+    }
+lines_in_blocks = refl
+
+set_in_a_block : edited_by (record { line = 2; lines = ended_by_a_feed (codes "a = 1") ∷ ended_by_a_feed (codes "# c") ∷ ended_by_a_feed (codes " 2") ∷ [] })
+    (Some (record { line = 2; name = codes "a"; value = codes "3" }))
+    ≡ codes "a = 3\n# c\n"
+set_in_a_block = refl
 
 ended_texts : map is_ended ([] ∷ codes "a\n" ∷ codes "\n\n" ∷ codes "a" ∷ codes "a\nb" ∷ codes "a\n\r" ∷ [])
     ≡ false ∷ true ∷ true ∷ false ∷ false ∷ false ∷ []

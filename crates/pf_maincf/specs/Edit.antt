@@ -1,6 +1,7 @@
 -- The edit of a main.cf's text (postconf(1), -e): the last setting of each name that is set gives way to one line, and nothing else changes.
 use Rattle.std.specs.Prelude.{◌≡◌, ℕ, ◌+◌, ◌-◌, ◌==◌, ◌++◌, ◌&&◌, Bool, true, false, not, List, [], ◌∷◌, Option, None, Some, Result, Ok, Err, length, map, filter, slice_index, codes, if◌then◌else◌}
 use Rattle.std.specs.List.{find, flat_map, fold, list_all, list_any}
+use Rattle.std.specs.Option.{option_map, option_or}
 use Rattle.std.specs.Str.{bytes_eq}
 use Rattle.pf_base.specs.Lines.{lines, rest, without_return}
 use Rattle.pf_base.specs.Logical.{is_ignored, starts_with_space}
@@ -56,38 +57,67 @@ line_of (Some setting) = setting.line
 abbrev pub placed : List Setting → Setting → Setting
 placed settings set = record { line = line_of (last_setting settings set.name); name = set.name; value = set.value }
 
--- a physical line and its line feed, if it has one, with the number of the line at which its logical line begins; an ignored line has
--- the number of the line before it
-pub record Marked : Type 0 where
-  pub begun : ℕ
-  pub line : List ℕ
+-- a physical line and its line feed, if it has one
+pub record Line : Type 0 where
+  pub text : List ℕ
   pub feed : List ℕ
 
--- the line at which the logical line begins: this one, unless it is ignored or starts with space
-abbrev pub begun_at : ℕ → ℕ → List ℕ → ℕ
-begun_at begun number line =
-    if is_ignored (without_return line) then begun else if starts_with_space (without_return line) then begun else number
+-- the physical lines of a text: one ends at a line feed or at the end of the text
+abbrev pub lines_in : List ℕ → List Line
+lines_in text = map (λ line. record { text = line; feed = 10 ∷ [] }) (lines text) ++ record { text = rest text; feed = [] } ∷ []
 
--- the physical lines from this number on, behind lines the last of which stands in the logical line begun there
-abbrev pub marked : ℕ → ℕ → List (List ℕ) → List ℕ → List Marked
-marked begun number [] rest = record { begun = begun_at begun number rest; line = rest; feed = [] } ∷ []
-marked begun number (line ∷ lines) rest =
-    record { begun = begun_at begun number line; line = line; feed = 10 ∷ [] } ∷ marked (begun_at begun number line) (number + 1) lines rest
+-- a line as it stands in the text
+abbrev pub standing : Line → List ℕ
+standing line = line.text ++ line.feed
 
--- what a line that counts gives way to: the first one of a logical line to the line of the set, and those that continue it to nothing
-abbrev pub given_way : Marked → Option Setting → List ℕ
-given_way marked None = marked.line ++ marked.feed
-given_way marked (Some set) = if starts_with_space (without_return marked.line) then [] else set_line set
+-- a line counts for nothing
+abbrev pub counts_for_nothing : List ℕ → Bool
+counts_for_nothing line = is_ignored (without_return line)
 
--- what stands there for a line of the text: an ignored line stays, and so does one of a logical line where no set stands
-abbrev pub edited_line : List Setting → Marked → List ℕ
-edited_line sets marked =
-    if is_ignored (without_return marked.line) then marked.line ++ marked.feed
-    else given_way marked (find (λ set. set.line == marked.begun) sets)
+-- a line begins a logical line
+abbrev pub begins_logical : List ℕ → Bool
+begins_logical line = not (is_ignored (without_return line)) && not (starts_with_space (without_return line))
 
--- the lines of a text, edited
+-- a logical line as it stands in a text: the number of its first physical line, and its physical lines with the ignored ones up to the next
+-- logical line
+pub record Block : Type 0 where
+  pub line : ℕ
+  pub lines : List Line
+
+-- the physical lines before the first logical line, and the logical lines
+pub record Blocks : Type 0 where
+  pub front : List Line
+  pub blocks : List Block
+
+-- one line more before others
+abbrev pub before_blocks : ℕ → Line → Blocks → Blocks
+before_blocks number line b =
+    if begins_logical line.text then record { front = []; blocks = record { line = number; lines = line ∷ b.front } ∷ b.blocks }
+    else record { front = line ∷ b.front; blocks = b.blocks }
+
+-- the blocks of lines whose first one has this number
+abbrev pub blocks_from : ℕ → List Line → Blocks
+blocks_from number [] = record { front = []; blocks = [] }
+blocks_from number (line ∷ lines) = before_blocks number line (blocks_from (number + 1) lines)
+
+-- the set of a line
+abbrev pub set_at : List Setting → ℕ → Option Setting
+set_at sets line = find (λ set. set.line == line) sets
+
+-- a logical line stays as it stands, or gives way to the line of the set there; ignored lines come behind that
+abbrev pub edited_by : Block → Option Setting → List ℕ
+edited_by block None = flat_map standing block.lines
+edited_by block (Some set) = set_line set ++ flat_map standing (filter (λ line. counts_for_nothing line.text) block.lines)
+
+abbrev pub edited_block : List Setting → Block → List ℕ
+edited_block sets block = edited_by block (set_at sets block.line)
+
+-- all lines, edited
+abbrev pub edited_blocks : List Setting → Blocks → List ℕ
+edited_blocks sets b = flat_map standing b.front ++ flat_map (edited_block sets) b.blocks
+
 abbrev pub edited_lines : List Setting → List ℕ → List ℕ
-edited_lines sets text = flat_map (edited_line sets) (marked 0 1 (lines text) (rest text))
+edited_lines sets text = edited_blocks sets (blocks_from 1 (lines_in text))
 
 -- a text ends in a line feed: nothing stands behind its last one
 abbrev pub is_ended : List ℕ → Bool
@@ -114,3 +144,18 @@ edited_in sets text (Err fault) = Err fault
 -- the text of a main.cf of this name after an edit
 unfoldable pub edited : List ℕ → List ℕ → List Setting → Result (List ℕ) ConfFault
 edited file text sets = edited_in sets text (conf_of file text)
+
+-- the value of a name, and the one that it is set to
+abbrev pub value_of : List Setting → List ℕ → Option (List ℕ)
+value_of settings name = option_map (λ s. s.value) (last_setting settings name)
+
+abbrev pub set_value : List Setting → List ℕ → Option (List ℕ)
+set_value sets name = option_map (λ s. s.value) (find (λ s. bytes_eq s.name name) sets)
+
+-- the text after an edit is read, and each name has the value that it is set to, or else the one that it had
+pub record IsEditOf (file text after : List ℕ) (sets : List Setting) : Type 0 where
+  pub old : Conf
+  pub new : Conf
+  pub before : conf_of file text ≡ Ok old
+  pub behind : conf_of file after ≡ Ok new
+  pub values : (name : List ℕ) → value_of new.settings name ≡ option_or (set_value sets name) (value_of old.settings name)

@@ -1,10 +1,11 @@
 //! The edit of a main.cf's text.
-ghost use Rattle.std.specs.Prelude.{◌≡◌, ◌==◌, ◌++◌, ◌∷◌, [], map, filter, IfOk, OnOk};
-ghost use Rattle.std.specs.List.{find, fold};
+ghost use Rattle.std.specs.Prelude.{◌≡◌, ◌==◌, ◌++◌, map, filter, IfOk, OnOk};
+ghost use Rattle.std.specs.List.{fold};
 ghost use Rattle.std.specs.Option.{option_copied};
 ghost use Rattle.pf_base.specs.Unless.{Unless};
 ghost use Rattle.pf_maincf.specs.Edit as edit;
-ghost use Rattle.pf_maincf.specs.Edit.{AreSets, edited, set_line, with_line};
+ghost use Rattle.pf_maincf.specs.Edit.{AreSets, IsEditOf, edited, set_line, with_line};
+ghost use Rattle.pf_maincf.specs.Editing as editing;
 
 use crate::maincf::MainCf;
 use crate::setting::Setting;
@@ -13,16 +14,12 @@ use pf_base::{
 };
 use std::alloc::Global;
 
-// The number of the line at which the logical line of this one begins; `begun` is that of the line before.
-fn begun_at(begun: u64, number: u64, line: &[u8]) -> u64
-    ensures { result ≡ edit.begun_at begun number line.now }
+// Whether a line begins a logical line.
+fn begins_logical(line: &[u8]) -> bool
+    ensures { result ≡ edit.begins_logical line.now }
 {
     let line = without_return(line);
-    if is_ignored(line) || starts_with_space(line) {
-        begun
-    } else {
-        number
-    }
+    !is_ignored(line) && !starts_with_space(line)
 }
 
 // Adds the line that sets a name.
@@ -37,28 +34,42 @@ fn add_set(text: &mut Bytes, set: &Setting) -> Result<(), NoMemory>
 
 // The first set of this line.
 fn set_at(sets: &[Setting], line: u64) -> Option<&Setting>
-    ensures { option_copied result ≡ find (λ set. set.line == line) sets.now }
+    ensures { option_copied result ≡ edit.set_at sets.now line }
 {
     sets.iter().find(|set| set.line == line)
 }
 
-// Adds what stands there for a line of the text; `begun` is the number of the line at which its logical line begins.
+// The set at the logical line of this line; `set` is that of the line before.
+fn set_from<'a>(
+    sets: &'a [Setting],
+    set: Option<&'a Setting>,
+    number: u64,
+    line: &[u8],
+) -> Option<&'a Setting>
+    ensures { option_copied result ≡ editing.set_from sets.now (option_copied set.entry) number line.now }
+{
+    if begins_logical(line) {
+        set_at(sets, number)
+    } else {
+        set
+    }
+}
+
+// Adds what a line of the text leaves, with this set at its logical line.
 fn add_line(
     text: &mut Bytes,
-    sets: &[Setting],
-    begun: u64,
+    set: Option<&Setting>,
     line: &[u8],
     feed: &[u8],
 ) -> Result<(), NoMemory>
-    ensures { OnOk result (text.new ≡ text.old ++ edit.edited_line sets.now (record { begun = begun; line = line.now; feed = feed.now })) }
+    ensures { OnOk result (text.new ≡ text.old ++ editing.line_left (option_copied set.entry) (record { text = line.now; feed = feed.now })) }
 {
-    let seen = without_return(line);
-    if !is_ignored(seen) {
-        if let Some(set) = set_at(sets, begun) {
-            if starts_with_space(seen) {
-                return Ok(());
-            }
+    if let Some(set) = set {
+        if begins_logical(line) {
             return add_set(text, set);
+        }
+        if !is_ignored(without_return(line)) {
+            return Ok(());
         }
     }
     text.extend(line)?;
@@ -72,17 +83,17 @@ fn edited_lines(alloc: Global, sets: &[Setting], text: &[u8]) -> Result<Bytes, N
     let mut edited = Bytes::new(alloc);
     let mut left = text;
     let mut number = 1;
-    let mut begun = 0;
+    let mut set = None;
     'lines: loop {
         match first_line(left) {
             None => {
-                begun = begun_at(begun, number, left);
-                add_line(&mut edited, sets, begun, left, b"")?;
+                set = set_from(sets, set, number, left);
+                add_line(&mut edited, set, left, b"")?;
                 return Ok(edited);
             }
             Some((line, behind)) => {
-                begun = begun_at(begun, number, line);
-                add_line(&mut edited, sets, begun, line, b"\n")?;
+                set = set_from(sets, set, number, line);
+                add_line(&mut edited, set, line, b"\n")?;
                 left = behind;
                 number += 1;
             }
@@ -162,7 +173,8 @@ impl MainCf {
     /// The text of a main.cf after these are set (postconf(1), -e). The physical lines of the last logical line of each name
     /// give way to one line `name = value`, with both its blanks for an empty value too, ended by a line feed; ignored lines
     /// between them stay and come behind it. Names that the text does not set come as such lines at its end. Every other byte
-    /// stays. A text that `read` refuses is refused alike. The lines of the sets count for nothing.
+    /// stays. A text that `read` refuses is refused alike. The lines of the sets count for nothing. What comes is read again with
+    /// the set values, and each other name has the value that it had.
     pub fn edit(
         alloc: Global,
         file: &[u8],
@@ -170,7 +182,8 @@ impl MainCf {
         sets: &List<Setting>,
     ) -> Result<Bytes, ConfFault>
         requires { AreSets sets.now }
-        ensures { Unless result ConfFault.NoMemory (λ r. r ≡ edited file.now text.now sets.now) }
+        ensures is { Unless result ConfFault.NoMemory (λ r. r ≡ edited file.now text.now sets.now) }
+        ensures values { IfOk result (λ after. IsEditOf file.now text.now after sets.now) }
     {
         let conf = MainCf::read(alloc, file, text)?;
         match edited_text(alloc, &conf, sets.as_slice(), text) {

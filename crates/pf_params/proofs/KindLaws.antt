@@ -1,12 +1,15 @@
 -- What the values of a kind say.
-use Rattle.std.proofs.Common.{◌≡◌, ℕ, Bool, true, false, List, [], Option, None, Some, Result, Ok, Err, refl, sym, ap, subst, ◌∙◌, codes, if◌then◌else◌}
+use Rattle.std.proofs.Common.{◌≡◌, ◌≤◌, ℕ, ◌&&◌, Bool, true, false, List, [], Option, None, Some, Result, Ok, Err, refl, sym, ap, subst, ◌∙◌, codes, arith, if◌then◌else◌}
+use Rattle.std.specs.Prelude.{nat_le}
+use Rattle.std.proofs.lemmas.Bool.{leb-true}
+use Rattle.std.specs.Str.Parse.{digits_value}
 use Rattle.std.specs.Option.{option_map}
 use Rattle.pf_base.specs.Names.{same_in_any_case}
 use Rattle.pf_base.specs.Words.{words_of}
 use Rattle.pf_base.specs.declared.words.WordsFault.{WordsFault}
-use Rattle.pf_catalogue.specs.Numbers.{number_within}
+use Rattle.pf_catalogue.specs.Numbers.{is_number, number_within}
 use Rattle.pf_catalogue.specs.Tables.{tables_of}
-use Rattle.pf_catalogue.specs.Values.{are_items, list_of, value_of}
+use Rattle.pf_catalogue.specs.Values.{IsNumberOf, are_items, greatest_code, least_code, list_of, value_of}
 use Rattle.pf_catalogue.specs.declared.kind.Kind.{Kind}
 use Rattle.pf_catalogue.specs.declared.kind.Kind.TheVariants as kind
 use Rattle.pf_catalogue.specs.declared.value.Value.{Value}
@@ -37,7 +40,7 @@ number_there (Some n) v is = let same : Number n ≡ v = cc in subst IsNumber sa
 
 pub numeric_only : (k : Kind) (text : List ℕ) (v : Value) → is_numeric k ≡ true → value_of k text ≡ Some v → IsNumber v
 numeric_only (kind.Number least most) text v h is = number_there (number_within least most text) v is
-numeric_only kind.Code text v h is = number_there (number_within 400 599 text) v is
+numeric_only kind.Code text v h is = number_there (number_within least_code greatest_code text) v is
 numeric_only k text v h is = cc
 
 pub answer_only : (k : Kind) (text : List ℕ) (v : Value) → k ≡ kind.Yes → value_of k text ≡ Some v → IsAnswer v
@@ -63,6 +66,51 @@ list_only kind.Code text v h is = cc
 list_only kind.Yes text v h is = cc
 list_only kind.FixedYes text v h is = cc
 list_only k text v h is = items_there k (words_of text) v is
+
+-- a number is one of its kind
+both : (a b c : Bool) → (a && b && c) ≡ true → (b ≡ true) × (c ≡ true)
+both true true true h = (refl, refl)
+both true true false h = cc
+both true false c h = cc
+both false b c h = cc
+
+number_bounds : (least most : ℕ) (text : List ℕ) (n : ℕ) → option_map Number (number_within least most text) ≡ Some (Number n) → (least ≤ n) × (n ≤ most)
+number_bounds least most text n is = by_test (is_number text && nat_le least value && nat_le value most) refl is where
+  value : ℕ
+  value = digits_value 10 text
+
+  by_test : (t : Bool) → (is_number text && nat_le least value && nat_le value most) ≡ t → option_map Number (if t then Some value else None) ≡ Some (Number n)
+      → (least ≤ n) × (n ≤ most)
+  by_test false e is = cc
+  by_test true e is =
+      let same : value ≡ n = cc in
+      let within = both (is_number text) (nat_le least value) (nat_le value most) e in
+      let low = leb-true least value within.0 in
+      let high = leb-true value most within.1 in
+      (omega (arith, same, low), omega (arith, same, high))
+
+pub number_of_kind : (k : Kind) (text : List ℕ) (n : ℕ) → is_numeric k ≡ true → value_of k text ≡ Some (Number n) → IsNumberOf k n
+number_of_kind (kind.Number least most) text n h is = number_bounds least most text n is
+number_of_kind kind.Code text n h is = number_bounds least_code greatest_code text n is
+number_of_kind k text n h is = cc
+
+-- items are those of their kind
+items_allowed : (k : Kind) (r : Result (List (List ℕ)) WordsFault) (items : List (List ℕ)) → list_of k r ≡ Some (Items items) → are_items k items ≡ true
+items_allowed k (Err fault) items is = cc
+items_allowed k (Ok words) items is = by_test (are_items k words) refl is where
+  by_test : (t : Bool) → are_items k words ≡ t → (if t then Some (Items words) else None) ≡ Some (Items items) → are_items k items ≡ true
+  by_test true e is = let same : words ≡ items = cc in ap (are_items k) (sym same) ∙ e
+  by_test false e is = cc
+
+pub items_of_kind : (k : Kind) (text : List ℕ) (items : List (List ℕ)) → is_list k ≡ true → value_of k text ≡ Some (Items items) → are_items k items ≡ true
+items_of_kind kind.Text text items h is = cc
+items_of_kind kind.Unset text items h is = cc
+items_of_kind kind.Origin text items h is = cc
+items_of_kind (kind.Number least most) text items h is = cc
+items_of_kind kind.Code text items h is = cc
+items_of_kind kind.Yes text items h is = cc
+items_of_kind kind.FixedYes text items h is = cc
+items_of_kind k text items h is = items_allowed k (words_of text) items is
 
 -- no items name no tables
 pub no_tables : (k : Kind) → tables_of k [] ≡ []

@@ -3,6 +3,7 @@ ghost use Rattle.std.specs.Prelude.{◌≡◌, Some, true, IfOk, is_some};
 ghost use Rattle.std.specs.Option.{option_copied, option_map};
 ghost use Rattle.pf_base.specs.Unless.{Unless};
 ghost use Rattle.pf_catalogue.specs.Catalogue.{row_at};
+ghost use Rattle.pf_catalogue.specs.Values.{IsNumberOf, are_items};
 ghost use Rattle.pf_catalogue.specs.declared.kind.Kind.TheVariants as kind;
 ghost use Rattle.pf_catalogue.specs.declared.value.Value.TheVariants as value;
 ghost use Rattle.pf_params.specs.Accepted as spec;
@@ -130,10 +131,11 @@ impl Settings {
         self.reading(p).line
     }
 
-    /// The number that is the value of a parameter, or the code of a reply.
+    /// The number that is the value of a parameter, or the code of a reply, from 400 to 599. It is one of its kind.
     pub fn number(&self, p: Param) -> u64
         requires { spec.is_numeric (row_at p).kind ≡ true }
-        ensures { spec.said_by self.now (row_at p) ≡ Some (value.Number result) }
+        ensures said { spec.said_by self.now (row_at p) ≡ Some (value.Number result) }
+        ensures kind { IsNumberOf (row_at p).kind result }
     {
         match &self.reading(p).value {
             Value::Number(number) => *number,
@@ -156,10 +158,11 @@ impl Settings {
         }
     }
 
-    /// The items of the list that is the value of a parameter.
+    /// The items of the list that is the value of a parameter. They may stand in a list of its kind.
     pub fn items(&self, p: Param) -> &List<Bytes>
         requires { spec.is_list (row_at p).kind ≡ true }
-        ensures { result.now ≡ spec.items_of self.now (row_at p) }
+        ensures items { result.now ≡ spec.items_of self.now (row_at p) }
+        ensures kind { are_items (row_at p).kind result.now ≡ true }
     {
         match &self.reading(p).value {
             Value::Items(items) => items,

@@ -2,16 +2,11 @@
 use Rattle.std.specs.Prelude.{ℕ, List, Option, Some, None, codes}
 use Rattle.std.specs.Option.{option_and_then}
 use Rattle.clap.specs.Words.{Row}
-use Rattle.pf_words.specs.Address.{ipv4_of}
+use Rattle.pf_words.specs.Address.{ipv4_of, ◌>>=◌}
 use Rattle.pf_words.specs.Commands.{smtpd_app}
 use Rattle.pf_words.specs.Found.{rows_in, value_in}
 use Rattle.pf_words.specs.Numbers.{budget_of, greatest_budget}
 use Rattle.pf_words.specs.declared.smtpd.SmtpdWords.{SmtpdWords}
-
--- the one and then the other, where both are
-infixl 10 ◌>>=◌
-abbrev pub ◌>>=◌ : {A B : Type 0} → Option A → (A → Option B) → Option B
-o >>= f = option_and_then f o
 
 -- the budget of -b, without it the greatest
 abbrev pub budget_in : Option (List ℕ) → Option ℕ

@@ -1,12 +1,12 @@
 use Rattle.std.proofs.Common.{◌≡◌, ◌+◌, ◌≤◌, ◌++◌, length}
-use Rattle.std.specs.List.{flat_map}
-use Rattle.pf_base.specs.Lines.{lines, rest}
-use Rattle.pf_maincf.specs.Edit.{edited_line, edited_lines, marked}
+use Rattle.std.specs.Option.{option_copied}
+use Rattle.pf_maincf.specs.Edit.{blocks_from, edited_lines, lines_in}
+use Rattle.pf_maincf.specs.Editing.{blocks_left}
 use Rattle.pf_maincf.proofs.edit.edited_lines.Given as goal
 
 abbrev pub invariant-lines : goal.invariant-lines
 invariant-lines l =
-    (edited_lines l.sets l.text ≡ l.edited ++ flat_map (edited_line l.sets) (marked l.begun l.number (lines l.left) (rest l.left)))
+    (edited_lines l.sets l.text ≡ l.edited ++ blocks_left l.sets (option_copied l.set) (blocks_from l.number (lines_in l.left)))
     × (l.number + length l.left ≤ length l.text + 1)
 
 abbrev pub decreases-lines : goal.decreases-lines

@@ -7,7 +7,7 @@ use Rattle.pf_params.proofs.settings.Settings.add_parameter.Goals as goal
 pub returns-in-Items : goal.returns-in-Items
 returns-in-Items c =
     rw (← texts_of c.args.self.now (row_at c.args.p) c.reading-reading.result.now c.args.specs.now c.in-Items.items c.reading-reading.ensures (ap items_in c.in-Items.is))
-    (rw (c.kind_of.ensures, c.as_slice.ensures) at c.add_tables.ensures)
+    (rw (c.kind_of.ensures, c.as_slice.ensures) at c.add_tables.ensures.ok)
 
 pub returns-in-Text : goal.returns-in-Text
 returns-in-Text c = no_texts c.args.self.now (row_at c.args.p) c.reading-reading.result.now c.args.specs.now c.reading-reading.ensures (ap items_in c.in-Text.is)

@@ -1,7 +1,7 @@
 use Rattle.std.proofs.Common.{ap, ◌∙◌, Some}
 use Rattle.pf_catalogue.specs.Catalogue.{row_at}
 use Rattle.pf_catalogue.specs.declared.value.Value.TheVariants as value
-use Rattle.pf_params.proofs.KindLaws.{numeric_only}
+use Rattle.pf_params.proofs.KindLaws.{number_of_kind, numeric_only}
 use Rattle.pf_params.proofs.ReadingLaws.{reading_is}
 use Rattle.pf_params.specs.Accepted.{text_of}
 use Rattle.pf_params.proofs.settings.Settings.number.Goals as goal
@@ -21,5 +21,10 @@ unreachable-requires-in-Items c =
     let read = reading_is c.args.self.now (row_at c.args.p) c.reading.result.now c.reading.ensures in
     numeric_only (row_at c.args.p).kind (text_of c.args.self.now (row_at c.args.p)) _ c.requires (read.said ∙ ap Some c.in-Items.is)
 
-pub returns : goal.returns
-returns c = (reading_is c.args.self.now (row_at c.args.p) c.reading.result.now c.reading.ensures).said ∙ ap Some c.in-Number.is
+pub returns-clause-said : goal.returns-clause-said
+returns-clause-said c = (reading_is c.args.self.now (row_at c.args.p) c.reading.result.now c.reading.ensures).said ∙ ap Some c.in-Number.is
+
+pub returns-clause-kind : goal.returns-clause-kind
+returns-clause-kind c =
+    let read = reading_is c.args.self.now (row_at c.args.p) c.reading.result.now c.reading.ensures in
+    number_of_kind (row_at c.args.p).kind (text_of c.args.self.now (row_at c.args.p)) _ c.requires (read.said ∙ ap Some c.in-Number.is)

@@ -1,0 +1,24 @@
+-- What one line of a text leaves in the edited text. Words of the code's contracts, between a loop over lines and `edited_lines`.
+use Rattle.std.specs.Prelude.{ℕ, ◌++◌, ◌&&◌, not, List, [], Option, None, Some, is_some, if◌then◌else◌}
+use Rattle.std.specs.List.{flat_map}
+use Rattle.pf_maincf.specs.Edit.{Blocks, Line, begins_logical, edited_block, counts_for_nothing, set_at, set_line, standing}
+use Rattle.pf_maincf.specs.declared.setting.Setting.{Setting}
+
+-- the set at the logical line of a line, that of the line before being this one
+abbrev pub set_from : List Setting → Option Setting → ℕ → List ℕ → Option Setting
+set_from sets set number line = if begins_logical line then set_at sets number else set
+
+-- what the first line of a logical line leaves, and one behind it
+abbrev pub first_left : Option Setting → Line → List ℕ
+first_left None line = standing line
+first_left (Some set) line = set_line set
+
+abbrev pub behind_left : Option Setting → Line → List ℕ
+behind_left set line = if is_some set && not (counts_for_nothing line.text) then [] else standing line
+
+abbrev pub line_left : Option Setting → Line → List ℕ
+line_left set line = if begins_logical line.text then first_left set line else behind_left set line
+
+-- what lines leave that stand behind one with this set
+abbrev pub blocks_left : List Setting → Option Setting → Blocks → List ℕ
+blocks_left sets set b = flat_map (behind_left set) b.front ++ flat_map (edited_block sets) b.blocks
