@@ -10,4 +10,4 @@ returns c =
     let domain = c.as_slice-2.ensures in
     let place = c.as_bytes-2.ensures.value in
     let at = c.in_ok-place.ensures in
-    simp (line, number, local, domain, place, at) at c.extend_all.ensures
+    simp (line, number, local, domain, place, at) at c.extend_all.ensures.ok

@@ -6,4 +6,4 @@ unfolding relay_denied_text
 returns c =
     let local = c.as_slice.ensures in
     let domain = c.as_slice-2.ensures in
-    simp (local, domain) at c.extend_all.ensures
+    simp (local, domain) at c.extend_all.ensures.ok
