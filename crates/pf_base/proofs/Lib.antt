@@ -1,7 +1,6 @@
 pub mod BraceLemmas
 pub mod CutLemmas
 pub mod FileListLemmas
-pub mod LedLaws
 pub mod LineEnds
 pub mod LogicalLemmas
 pub mod Parts

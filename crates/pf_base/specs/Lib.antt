@@ -3,17 +3,13 @@ pub mod Causes
 pub mod FileList
 pub mod FileParts
 pub mod Gathering
-pub mod Heard
-pub mod Led
 pub mod Lines
 pub mod Logical
 pub mod Memory
 pub mod Names
-pub mod Questions
 pub mod Refusal
 pub mod Space
 pub mod TableTexts
 pub mod Told
-pub mod Tries
 pub mod Unless
 pub mod Words
