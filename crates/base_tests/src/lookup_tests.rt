@@ -78,7 +78,13 @@ fn a_class_is_judged(rt: HostRuntime) -> Result<(), Fail> {
     for (domain, levels, number, class, end) in [
         (b"example.com".as_slice(), 100, 0, Class::Local, End::Permit),
         (b"relay.test".as_slice(), 100, 0, Class::Relay, End::Permit),
-        (b"other.test".as_slice(), 100, 0, Class::Other, End::Deny(451)),
+        (
+            b"other.test".as_slice(),
+            100,
+            0,
+            Class::Other,
+            End::Deny(451),
+        ),
         (b"relay.test".as_slice(), 1, 0, Class::Relay, End::Deny(451)),
         (b"other.test".as_slice(), 1, 2, Class::Other, End::Deny(550)),
     ] {

@@ -1,15 +1,14 @@
 -- One try of a policy service, call by call.
-use Rattle.std.proofs.Common.{◌≡◌, ◌≢◌, ◌≤◌, ◌<◌, ◌+◌, ◌++◌, ℕ, Bool, true, false, List, [], ◌∷◌, Option, None, Some, Ok, Err, Result, length, take, refl, sym, ap, ◌∙◌, subst, arith, append_assoc, append-nil}
-use Rattle.std.specs.Prelude.{nat_lt, if◌then◌else◌, option_map}
+use Rattle.std.proofs.Common.{◌≡◌, ◌≢◌, ◌≤◌, ◌<◌, ◌++◌, ℕ, false, List, [], ◌∷◌, Option, None, Some, Ok, Err, length, take, refl, sym, ap, ◌∙◌, arith, append_assoc, append-nil}
+use Rattle.std.specs.Prelude.{option_map}
 use Rattle.std.specs.List.{count_by}
 use Rattle.std.proofs.lemmas.Bool.{le-ltb, lt-ltb}
 use Rattle.std.proofs.lemmas.List.{length-append}
 use Rattle.pf_base.specs.Causes.{Rose}
-use Rattle.pf_base.specs.declared.fault.OuterFault.{OuterFault}
 use Rattle.pf_base.specs.declared.fault.OuterFault.TheVariants.{Failed}
 use Rattle.pf_asks.specs.Held.{Held, RoseBy}
 use Rattle.pf_asks.specs.Led.{IsSent, Links, UsesTold}
-use Rattle.pf_asks.specs.Wire.{Connects, Receives, Sends, Wire, begun, hung_up, is_down, next_outcome, reply_bytes, with_left}
+use Rattle.pf_asks.specs.Wire.{Connects, Receives, Sends, Wire, begun, hung_up, is_down, next_outcome, reply_bytes}
 use Rattle.pf_asks.specs.declared.links.LinkStep.TheVariants.{Connect, Send, Receive}
 use Rattle.pf_asks.specs.declared.links.Outcome.{Outcome}
 use Rattle.pf_asks.specs.declared.links.Outcome.TheVariants.{Down, Reply}

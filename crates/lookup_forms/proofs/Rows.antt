@@ -10,19 +10,17 @@ use Rattle.pf_asks.specs.declared.lookup.Found.TheVariants.{Value, Absent}
 use Rattle.pf_asks.specs.declared.lookup.TableFault.TheVariants.{Fails, Failed}
 use Rattle.pf_asks.specs.declared.resolver.Answer.TheVariants.{Found}
 use Rattle.pf_asks.specs.declared.resolver.AskFault.TheVariants as ask_fault
-use Rattle.pf_asks.specs.declared.resolver.Kind.TheVariants.{A, Mx}
+use Rattle.pf_asks.specs.declared.resolver.Kind.TheVariants.{A}
 use Rattle.lookup_forms.specs.Access.{access, access_around}
 use Rattle.lookup_forms.specs.Classes.{class_of, is_listed}
 use Rattle.lookup_forms.specs.Policy.{first_reply, one_reply}
 use Rattle.lookup_forms.specs.Restrictions.{check_policy_service, class_end, list_end, list_with, permit_auth_destination, restriction_end}
 use Rattle.lookup_forms.specs.Senders.{has_record, reject_unknown_sender_domain}
-use Rattle.lookup_forms.specs.Tables.{first_of, value_in, values_of}
-use Rattle.lookup_forms.specs.declared.class.Class.TheVariants.{Relay, Other}
+use Rattle.lookup_forms.specs.Tables.{first_of, values_of}
+use Rattle.lookup_forms.specs.declared.class.Class.TheVariants.{Relay}
 use Rattle.lookup_forms.specs.declared.class.ClassFault.TheVariants.{LookupFailed}
-use Rattle.lookup_forms.specs.declared.class.Domains.{Domains}
 use Rattle.lookup_forms.specs.declared.fixed.Table.TheVariants.{Pairs, Fail}
 use Rattle.lookup_forms.specs.declared.restrictions.End.TheVariants.{Permit, Through, Deny}
-use Rattle.lookup_forms.specs.declared.restrictions.Restriction.{Restriction}
 use Rattle.lookup_forms.specs.declared.restrictions.Restriction.TheVariants.{PermitAuthDestination, CheckPolicyService, Class}
 use Rattle.lookup_forms.specs.declared.restrictions.Site.{Site}
 use Rattle.pf_base.specs.declared.table_texts.TableId.{TableId}

@@ -1,7 +1,6 @@
 -- What lookups in memory answer, how many lookups a search makes, and which of its faults comes only where the count of faults rose.
-use Rattle.std.proofs.Common.{◌≡◌, ◌≤◌, ◌+◌, ℕ, Bool, true, false, List, [], ◌∷◌, Option, None, Some, Result, Ok, Err, length, refl, ap, ◌∙◌, arith}
+use Rattle.std.proofs.Common.{◌≡◌, ◌+◌, ℕ, Bool, true, false, List, [], ◌∷◌, None, Some, Result, Ok, Err, length, refl, ap, ◌∙◌, arith}
 use Rattle.std.specs.Prelude.{ok_or, slice_get}
-use Rattle.pf_base.specs.Causes.{counted}
 use Rattle.pf_base.specs.Unless.{Unless}
 use Rattle.pf_asks.proofs.CountLaws.{at_most_done, at_most_look, at_most_more, at_most_next, fails_only_look, fails_only_next, fails_only_ok}
 use Rattle.pf_asks.specs.Held.{Answered}

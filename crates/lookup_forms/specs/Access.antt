@@ -1,5 +1,5 @@
 -- A key that is looked up before and behind other lookups (access(5)).
-use Rattle.std.specs.Prelude.{◌≡◌, ℕ, Bool, true, List, Result, Ok, Err, codes, if◌then◌else◌}
+use Rattle.std.specs.Prelude.{◌≡◌, ℕ, List, Ok, Err, codes, if◌then◌else◌}
 use Rattle.std.specs.Str.{bytes_eq}
 use Rattle.pf_asks.specs.Held.{Held, Holds}
 use Rattle.pf_asks.specs.Looking.{Looked, Values, look_failed, value_of}

@@ -1,22 +1,19 @@
 -- How many lookups a question makes, and which of its faults come only where the count of faults rose.
-use Rattle.std.proofs.Common.{◌≡◌, ◌≢◌, ◌≤◌, ◌+◌, ◌++◌, ℕ, Bool, true, false, List, [], ◌∷◌, Option, None, Some, Result, Ok, Err, length, refl, sym, ap, ◌∙◌, subst, arith, append-nil}
+use Rattle.std.proofs.Common.{◌≡◌, ◌≢◌, ◌≤◌, ◌+◌, ℕ, List, [], ◌∷◌, Option, None, Some, Result, Ok, Err, length, refl, ap, ◌∙◌, arith, append-nil}
 use Rattle.std.specs.Prelude.{IsErrOf, cond, unwrap_or, ok_or}
 use Rattle.std.proofs.lemmas.List.Sums.{sum_by-cons}
 use Rattle.pf_base.specs.Causes.{Rose}
 use Rattle.pf_base.specs.Unless.{Unless}
 use Rattle.pf_asks.specs.Heard.{Heard, ◌then◌, next, nothing}
-use Rattle.pf_asks.specs.Held.{Held, Tells, failures, is_failure}
+use Rattle.pf_asks.specs.Held.{Tells, failures, is_failure}
 use Rattle.pf_asks.specs.Led.{AtMost, ByTables, FailsOnly, Meant}
-use Rattle.pf_asks.specs.Looking.{Looked, Tables, Values, look_failed, value_of}
+use Rattle.pf_asks.specs.Looking.{Looked, Tables, Values, look_failed}
 use Rattle.pf_asks.specs.Questions.{Ask, Means, done, look, ◌>>=◌}
-use Rattle.pf_asks.specs.Resolving.{Asked}
 use Rattle.pf_asks.specs.Tries as tries
 use Rattle.pf_asks.specs.Tries.{Try, ok, on_ok}
 use Rattle.pf_asks.proofs.LedLaws.{alone}
 use Rattle.pf_asks.specs.declared.lookup.Found.{Found}
-use Rattle.pf_asks.specs.declared.lookup.TableFault.{TableFault}
 use Rattle.pf_asks.specs.declared.lookup.TableFault.TheVariants.{Fails, Failed}
-use Rattle.pf_asks.specs.declared.resolver.Row.{Row}
 
 pub at_most_done : {A : Type 0} (x : A) → AtMost 0 (done x)
 unfolding done
@@ -80,11 +77,13 @@ fails_only_next {A = A} {B} {fault} {p} f first then_ = record {
   where
     left : Means → Heard → Heard
     left means heard = (p means heard).left
+
     fails : (means : Means) (heard : Heard) (answer : Result A _) → (p means heard).answer ≡ answer
         → (on_ok f answer means (p means heard).left).answer ≡ Err fault
         → failures look_failed (on_ok f answer means (p means heard).left).left.looks + 1 ≤ failures look_failed heard.looks
     fails means heard (Ok x) is e = omega (arith, (then_ x).fails means (p means heard).left e, first.less means heard)
     fails means heard (Err other) is e = first.fails means heard (is ∙ ap Err (same_fault (Err other) other fault refl e))
+
     less : (means : Means) (heard : Heard) (answer : Result A _)
         → failures look_failed (on_ok f answer means (p means heard).left).left.looks ≤ failures look_failed heard.looks
     less means heard (Ok x) = omega (arith, (then_ x).less means (p means heard).left, first.less means heard)
@@ -99,7 +98,6 @@ tells_meant : (content : Option Values) → Tells content (meant_by content)
 tells_meant None = tt
 tells_meant (Some values) = refl
 
-
 abbrev means_of : Tables → Means
 means_of tables = record { values = meant_by tables.held.content; rows = [] }
 
@@ -113,7 +111,7 @@ by_tables_finds old new p x by most =
     let led = by (alone old) in
     let all : length (led.heard then nothing).looks ≡ length led.heard.looks = ap length (append-nil led.heard.looks) in
     let left : length (p (means_of old) (led.heard then nothing)).left.looks ≡ 0 =
-        ap (λ gave. length gave.left.looks) (led.is (means_of old) (meant_alone old) nothing) in
+    ap (λ gave. length gave.left.looks) (led.is (means_of old) (meant_alone old) nothing) in
     omega (arith, led.tables.stays.few, most.looks (means_of old) (led.heard then nothing), all, left)
 
 -- a fault that comes only where a lookup failed comes only where the count of faults rose, told or not
@@ -124,7 +122,7 @@ by_tables_rose old new p fault by only =
     let led = by (alone old) in
     let is = led.is (means_of old) (meant_alone old) nothing in
     let all : failures look_failed (led.heard then nothing).looks ≡ failures look_failed led.heard.looks =
-        ap (failures look_failed) (append-nil led.heard.looks) in
+    ap (failures look_failed) (append-nil led.heard.looks) in
     omega (arith, led.tables.hears.few, only.fails (means_of old) (led.heard then nothing) (ap (λ gave. gave.answer) is), all)
 
 -- both of a call that may want memory

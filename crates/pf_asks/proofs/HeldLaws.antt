@@ -1,5 +1,5 @@
 -- What was heard of the calls of one object, in turn; and answers that are used again.
-use Rattle.std.proofs.Common.{◌≡◌, ◌≤◌, ◌+◌, ◌++◌, ◌&&◌, ℕ, Bool, true, false, List, [], ◌∷◌, Option, None, Some, refl, sym, ap, ◌∙◌, subst, arith}
+use Rattle.std.proofs.Common.{◌≡◌, ◌+◌, ◌++◌, ◌&&◌, ℕ, Bool, true, false, List, [], ◌∷◌, Option, None, Some, refl, sym, ap, ◌∙◌, subst, arith}
 use Rattle.std.proofs.lemmas.Bool.{false≢true}
 use Rattle.std.specs.Prelude.{cond, unwrap_or}
 use Rattle.std.specs.List.{count_by, list_all}
@@ -61,7 +61,7 @@ holds_of {fails = fails} {old} {new} {meant} {result} answered works = record {
   is = λ content e.
       let told = sym answered.hears.kept.same ∙ e in
       as_meant fails answered.heard (meant content) result (answered.hears.only content told)
-          (answered.is content (subst (λ o. Tells o content) (sym told) refl)) works;
+      (answered.is content (subst (λ o. Tells o content) (sym told) refl)) works;
 }
 
 -- and it holds after other calls too

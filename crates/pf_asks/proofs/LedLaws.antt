@@ -1,15 +1,15 @@
 -- What led to what, in turn. Each caller's answers rest on led_refl, led_next and one law for each kind of outside call.
-use Rattle.std.proofs.Common.{◌≡◌, ◌<◌, ◌≤◌, ◌+◌, ◌++◌, ℕ, Bool, true, false, List, [], ◌∷◌, Option, None, Some, length, refl, sym, ap, ◌∙◌, subst, arith, append_assoc, append-nil}
-use Rattle.std.specs.Prelude.{if◌then◌else◌, unwrap_or}
+use Rattle.std.proofs.Common.{◌≡◌, ◌+◌, ◌++◌, ℕ, Bool, true, false, List, [], ◌∷◌, Option, None, Some, length, refl, sym, ap, ◌∙◌, subst, arith, append_assoc, append-nil}
+use Rattle.std.specs.Prelude.{if◌then◌else◌}
 use Rattle.std.proofs.lemmas.List.{get_or_append_left, get_or-append-add, length-append}
 use Rattle.pf_asks.proofs.HeldLaws.{answered_again, few_more, hears_more, hears_nothing, kept_refl, kept_trans, rose_by_none, tells_kept}
 use Rattle.pf_asks.specs.Heard.{Heard, ◌then◌, nothing}
-use Rattle.pf_asks.specs.Held.{Answered, Held, Hears, Holds, Kept}
+use Rattle.pf_asks.specs.Held.{Answered, Held, Holds, Kept}
 use Rattle.pf_asks.specs.Led.{Led, Links, Looks, Meant, Same, TablesLed, Uses, UsesTold, World, tried, world}
 use Rattle.pf_asks.specs.Looking.{CanFind, Looked, Stays, Tables, look_failed, value_of}
 use Rattle.pf_asks.specs.Questions.{Ask, Gave, Means, ask, behind, done, look, try, ◌>>=◌}
 use Rattle.pf_asks.specs.Resolving.{Asked, answer_of, ask_failed}
-use Rattle.pf_asks.specs.Wire.{Wire, is_down, next_outcome}
+use Rattle.pf_asks.specs.Wire.{Wire, is_down}
 use Rattle.pf_asks.specs.declared.links.Outcome.{Outcome}
 use Rattle.pf_asks.specs.declared.links.Request.{Request}
 use Rattle.pf_asks.specs.declared.resolver.Kind.{Kind}

@@ -1,16 +1,16 @@
 -- Worked examples of the definitions, each by computation.
-use Rattle.std.proofs.Common.{◌≡◌, ℕ, true, false, List, [], ◌∷◌, Option, None, Some, Ok, Err, refl, codes}
+use Rattle.std.proofs.Common.{◌≡◌, ℕ, zero, suc, true, false, List, [], ◌∷◌, Option, None, Some, Ok, Err, refl, codes}
 use Rattle.pf_asks.specs.Heard.{marked, next, nothing, ◌then◌}
 use Rattle.pf_asks.specs.Held.{failures}
 use Rattle.pf_asks.specs.Led.{tried}
 use Rattle.pf_asks.specs.Looking.{Looked, look_failed, value_of}
-use Rattle.pf_asks.specs.Questions.{Means, ask, look, try, ◌>>=◌}
+use Rattle.pf_asks.specs.Questions.{Means, look, try, ◌>>=◌}
 use Rattle.pf_asks.specs.Resolving.{answer_of, or_again}
 use Rattle.pf_asks.specs.Wire.{begun, hung_up, next_outcome}
 use Rattle.pf_asks.specs.declared.links.LinkStep.TheVariants.{Connect, Send}
 use Rattle.pf_asks.specs.declared.links.Outcome.TheVariants.{Down, Reply}
 use Rattle.pf_asks.specs.declared.lookup.Found.{Found}
-use Rattle.pf_asks.specs.declared.lookup.Found.TheVariants.{Value, Absent}
+use Rattle.pf_asks.specs.declared.lookup.Found.TheVariants.{Value}
 use Rattle.pf_asks.specs.declared.lookup.TableFault.TheVariants.{Fails, Failed}
 use Rattle.pf_asks.specs.declared.resolver.Answer.TheVariants as answer
 use Rattle.pf_asks.specs.declared.resolver.AskFault.TheVariants as ask_fault
@@ -18,8 +18,8 @@ use Rattle.pf_asks.specs.declared.resolver.Kind.TheVariants.{A, Mx}
 
 -- the first table has one key, and the others fail; the resolver knows one address
 abbrev values : ℕ → List ℕ → Option Found
-values 0 key = Some (Value (codes "1"))
-values id key = None
+values zero key = Some (Value (codes "1"))
+values (suc id) key = None
 
 abbrev means : Means
 means = record { values = values; rows = record { kind = A; name = codes "a.test"; answer = answer.Found (codes "192.0.2.1" ∷ []) } ∷ [] }

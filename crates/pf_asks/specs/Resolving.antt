@@ -1,5 +1,5 @@
 -- Questions to a resolver (RFC 1034, 5; RFC 1035, 2.3.3), as contracts see them.
-use Rattle.std.specs.Prelude.{◌≡◌, ◌≢◌, ℕ, ◌&&◌, Bool, true, false, List, [], Option, None, Some, Result, Ok, Err}
+use Rattle.std.specs.Prelude.{◌≢◌, ℕ, ◌&&◌, Bool, true, false, List, [], Option, None, Some, Result, Ok, Err}
 use Rattle.std.specs.List.{find}
 use Rattle.std.specs.Str.{bytes_eq}
 use Rattle.pf_base.specs.Names.{folded}

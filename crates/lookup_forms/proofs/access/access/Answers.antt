@@ -1,7 +1,6 @@
-use Rattle.std.proofs.Common.{◌≢◌, refl, sym, ◌∙◌, Ok, Err}
+use Rattle.std.proofs.Common.{◌≢◌, arith, refl, sym, ◌∙◌}
 use Rattle.pf_asks.proofs.HeldLaws.{holds_of}
 use Rattle.pf_asks.proofs.LedLaws.{led_first, led_look}
-use Rattle.pf_asks.specs.declared.lookup.Found.TheVariants.{Value, Absent}
 use Rattle.pf_asks.specs.declared.lookup.TableFault.TheVariants.{Fails, Failed, NoMemory}
 use Rattle.lookup_forms.specs.Access as spec
 use Rattle.lookup_forms.proofs.access.access.Goals as goal
@@ -34,33 +33,33 @@ returns-in-Ok-Value-clause-keeps g c = λ works. record {
 pub returns-in-Ok-Absent-clause-asked : goal.returns-in-Ok-Absent-clause-asked
 unfolding spec.access
 returns-in-Ok-Absent-clause-asked g c = λ w.
-    rw c.noted-2.ensures.end
+    rw c.noted-in-Ok-Absent.ensures.end
     (led_first _ (led_look c.args.id.0 c.args.key.now w c.find.ensures.stays (rw c.in-Ok-Absent.field-0-is at c.in-Ok-Absent.ensures.answered)))
 
 pub returns-in-Ok-Absent-clause-keeps : goal.returns-in-Ok-Absent-clause-keeps
 returns-in-Ok-Absent-clause-keeps g c = λ works. record {
   looked = _;
   holds = holds_of (rw c.in-Ok-Absent.field-0-is at c.in-Ok-Absent.ensures.answered) refl;
-  is = rw c.noted-2.ensures.end refl;
+  is = rw c.noted-in-Ok-Absent.ensures.end refl;
 }
 
 pub returns-in-Err-Fails-clause-asked : goal.returns-in-Err-Fails-clause-asked
 unfolding spec.access
 returns-in-Err-Fails-clause-asked g c = λ w.
-    rw c.noted-3.ensures.end
+    rw c.noted-in-Err-Fails.ensures.end
     (led_first _ (led_look c.args.id.0 c.args.key.now w c.find.ensures.stays
-        (rw c.in-Err-Fails.field-0-is at (c.in-Err-Fails.ensures.answered (λ e. fails (sym c.in-Err-Fails.field-0-is ∙ e))))))
+    (rw c.in-Err-Fails.field-0-is at (c.in-Err-Fails.ensures.answered (λ e. fails (sym c.in-Err-Fails.field-0-is ∙ e))))))
 
 pub returns-in-Err-Fails-clause-keeps : goal.returns-in-Err-Fails-clause-keeps
 returns-in-Err-Fails-clause-keeps g c = λ works. record {
   looked = _;
   holds = holds_of (rw c.in-Err-Fails.field-0-is at (c.in-Err-Fails.ensures.answered (λ e. fails (sym c.in-Err-Fails.field-0-is ∙ e)))) refl;
-  is = rw c.noted-3.ensures.end refl;
+  is = rw c.noted-in-Err-Fails.ensures.end refl;
 }
 
 pub returns-in-Err-Failed-clause-asked : goal.returns-in-Err-Failed-clause-asked
 unfolding spec.access
 returns-in-Err-Failed-clause-asked g c = λ w.
-    rw c.noted-4.ensures.end
+    rw c.noted-in-Err-Failed.ensures.end
     (led_first _ (led_look c.args.id.0 c.args.key.now w c.find.ensures.stays
-        (rw c.in-Err-Failed.field-0-is at (c.in-Err-Failed.ensures.answered (λ e. failed (sym c.in-Err-Failed.field-0-is ∙ e))))))
+    (rw c.in-Err-Failed.field-0-is at (c.in-Err-Failed.ensures.answered (λ e. failed (sym c.in-Err-Failed.field-0-is ∙ e))))))

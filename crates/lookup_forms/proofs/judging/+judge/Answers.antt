@@ -28,7 +28,7 @@ judge-returns-then-levels-eq0 g t c = rw c.if-levels-eq0.true (led_refl _ _)
 
 pub judge-returns : goal.judge-returns
 judge-returns g t c =
-    rw (below c.args.site.now c.args.domain.now c.args.levels c.args.class c.if-levels-eq0.false, ← c.class_at-list.ensures) c.list_end.ensures
+    rw (below c.args.site.now c.args.domain.now c.args.levels c.args.class c.if-levels-eq0.false, ← (rw c.as_slice.ensures at c.class_at-list.ensures)) c.list_end.ensures
 
 pub list_end-loop-restriction-init : goal.list_end-loop-restriction-init
 list_end-loop-restriction-init g t c = led_refl _ _

@@ -33,5 +33,5 @@ returns g c =
     IfOk-weaker c.read_reply.result _ _ (λ reply reads.
     let kept = c.in-Ok-send.ensures.cause.kept ∙ c.in-Ok.ensures.cause.kept in
     let t = try_read c.in-Ok.field-0 c.in-Ok-send.field-0 (g.K.Links.held c.args.links.now).content _ _ _ _ _ c.args.service.now c.args.text.now reply
-        c.in-Ok.ensures.does c.in-Ok-send.ensures.does (rw kept at reads.read) in
+    c.in-Ok.ensures.does c.in-Ok-send.ensures.does (rw kept at reads.read) in
     record { heard = t.0; later = omega (arith, kept, reads.later); few = t.1; is = t.2; tried = t.3 }) c.read_reply.ensures

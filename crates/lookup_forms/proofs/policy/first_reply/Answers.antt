@@ -1,4 +1,4 @@
-use Rattle.std.proofs.Common.{◌≡◌, ◌<◌, ◌+◌, ◌-◌, ℕ, suc, zero, List, ap, sym, arith}
+use Rattle.std.proofs.Common.{◌≡◌, ◌<◌, ◌+◌, ◌-◌, ℕ, suc, zero, List, ap, arith}
 use Rattle.pf_asks.proofs.LedLaws.{led_next, led_refl}
 use Rattle.lookup_forms.specs.Policy as spec
 use Rattle.lookup_forms.proofs.policy.first_reply.Goals as goal

@@ -15,4 +15,4 @@ pub returns-in-Err-Failed : goal.returns-in-Err-Failed
 unfolding spec.has_record
 returns-in-Err-Failed g c = λ w.
     led_first _ (led_ask c.args.name.now c.args.kind w
-        (rw c.in-Err-Failed.field-0-is at (c.in-Err-Failed.ensures.answered (λ e. failed (sym c.in-Err-Failed.field-0-is ∙ e)))))
+    (rw c.in-Err-Failed.field-0-is at (c.in-Err-Failed.ensures.answered (λ e. failed (sym c.in-Err-Failed.field-0-is ∙ e)))))
