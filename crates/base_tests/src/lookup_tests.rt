@@ -1,6 +1,6 @@
 use lookup_forms::{
-    Class, Domains, End, FixedTables, NoNames, NoService, Restriction, Site, Table, access_around,
-    class_of, find_first, judge,
+    Class, ClassFault, Domains, End, FixedTables, NoNames, NoService, Restriction, Site, Table,
+    access_around, class_of, find_first, judge,
 };
 use pf_asks::{Found, TableFault};
 use pf_base::{Bytes, List, NoMemory, Pair, TableId};
@@ -56,17 +56,81 @@ fn site(alloc: Global) -> Result<Site, NoMemory> {
     })
 }
 
+// A search in tables that are there.
+fn find(
+    alloc: Global,
+    tables: &mut FixedTables,
+    ids: &[TableId],
+    key: &[u8],
+) -> Result<Found, TableFault> {
+    if !tables.has(ids) {
+        return Err(TableFault::NoMemory);
+    }
+    find_first(alloc, tables, ids, key)
+}
+
+// The class of a domain, where the tables of the classes are there.
+fn class(
+    alloc: Global,
+    tables: &mut FixedTables,
+    domains: &Domains,
+    domain: &[u8],
+) -> Result<Class, ClassFault> {
+    if !tables.has_all(domains) {
+        return Err(ClassFault::NoMemory);
+    }
+    class_of(alloc, tables, domains, domain)
+}
+
+// How a class of restrictions ends, where the tables are there.
+fn class_end(
+    alloc: Global,
+    tables: &mut FixedTables,
+    site: &Site,
+    domain: &[u8],
+    levels: u64,
+    number: u64,
+) -> Result<End, NoMemory> {
+    if !tables.has_all(&site.domains) {
+        return Err(NoMemory);
+    }
+    let mut service = NoService { faults: 0 };
+    judge(
+        alloc,
+        site,
+        domain,
+        levels,
+        number,
+        tables,
+        &mut service,
+        &mut NoNames,
+    )
+}
+
+// How a domain ends that is looked up around its class, where the tables are there.
+fn around(
+    alloc: Global,
+    tables: &mut FixedTables,
+    domains: &Domains,
+    domain: &[u8],
+) -> Result<End, NoMemory> {
+    if !tables.has(&[TableId(1)]) || !tables.has_all(domains) {
+        return Err(NoMemory);
+    }
+    access_around(alloc, TableId(1), domains, domain, tables)
+}
+
 #[test]
 fn tables_are_looked_up_in_turn(rt: HostRuntime) -> Result<(), Fail> {
     let alloc = rt.alloc();
     let mut tables = tables(alloc, 6)?;
     let both = [TableId(0), TableId(1)];
     let value = Found::Value(Bytes::from_slice(alloc, b"OK")?);
-    assert!(rt; find_first(alloc, &mut tables, &both, b"relay.test") == Ok(value));
-    assert!(rt; find_first(alloc, &mut tables, &both, b"other.test") == Ok(Found::Absent));
+    assert!(rt; find(alloc, &mut tables, &both, b"relay.test") == Ok(value));
+    assert!(rt; find(alloc, &mut tables, &both, b"other.test") == Ok(Found::Absent));
     let fails = [TableId(2), TableId(1)];
-    assert!(rt; find_first(alloc, &mut tables, &fails, b"relay.test") == Err(TableFault::Fails));
-    assert!(rt; find_first(alloc, &mut tables, &both, b"relay.test") == Err(TableFault::Failed));
+    assert!(rt; find(alloc, &mut tables, &fails, b"relay.test") == Err(TableFault::Fails));
+    assert!(rt; find(alloc, &mut tables, &both, b"relay.test") == Err(TableFault::Failed));
     Ok(())
 }
 
@@ -75,7 +139,7 @@ fn a_class_is_judged(rt: HostRuntime) -> Result<(), Fail> {
     let alloc = rt.alloc();
     let mut tables = tables(alloc, 0)?;
     let site = site(alloc)?;
-    for (domain, levels, number, class, end) in [
+    for (domain, levels, number, wanted, end) in [
         (b"example.com".as_slice(), 100, 0, Class::Local, End::Permit),
         (b"relay.test".as_slice(), 100, 0, Class::Relay, End::Permit),
         (
@@ -88,18 +152,8 @@ fn a_class_is_judged(rt: HostRuntime) -> Result<(), Fail> {
         (b"relay.test".as_slice(), 1, 0, Class::Relay, End::Deny(451)),
         (b"other.test".as_slice(), 1, 2, Class::Other, End::Deny(550)),
     ] {
-        assert!(rt; class_of(alloc, &mut tables, &site.domains, domain) == Ok(class));
-        let mut service = NoService { faults: 0 };
-        let judged = judge(
-            alloc,
-            &site,
-            domain,
-            levels,
-            number,
-            &mut tables,
-            &mut service,
-            &mut NoNames,
-        )?;
+        assert!(rt; class(alloc, &mut tables, &site.domains, domain) == Ok(wanted));
+        let judged = class_end(alloc, &mut tables, &site, domain, levels, number)?;
         assert_eq!(rt; judged, end);
     }
     Ok(())
@@ -116,7 +170,7 @@ fn an_answer_is_kept_unless_it_failed(rt: HostRuntime) -> Result<(), Fail> {
         (1, b"relay.test".as_slice(), End::Deny(451)),
     ] {
         let mut tables = tables(alloc, failing)?;
-        let seen = access_around(alloc, TableId(1), &domains, domain, &mut tables)?;
+        let seen = around(alloc, &mut tables, &domains, domain)?;
         assert_eq!(rt; seen, end);
     }
     Ok(())

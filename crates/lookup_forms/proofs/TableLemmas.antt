@@ -1,10 +1,14 @@
 -- What lookups in memory answer, how many lookups a search makes, and which of its faults comes only where the count of faults rose.
-use Rattle.std.proofs.Common.{◌≡◌, ◌+◌, ℕ, Bool, true, false, List, [], ◌∷◌, None, Some, Result, Ok, Err, length, refl, ap, ◌∙◌, arith}
-use Rattle.std.specs.Prelude.{ok_or, slice_get}
+use Rattle.std.proofs.Common.{◌++◌, ◌<◌, ◌≡◌, ◌+◌, ℕ, Bool, true, false, List, [], ◌∷◌, None, Some, Result, Ok, Err, length, refl, ap, ◌∙◌, arith}
+use Rattle.std.proofs.lemmas.Bool.{ltb-true}
+use Rattle.std.proofs.lemmas.List.Elements.{All-append}
+use Rattle.std.proofs.lemmas.List.Sums.{AllPass-from_list_all}
+use Rattle.std.specs.List.{list_all}
+use Rattle.std.specs.Prelude.{nat_lt, slice_index_or, ok_or, slice_get}
 use Rattle.pf_base.specs.Unless.{Unless}
 use Rattle.pf_asks.proofs.CountLaws.{at_most_done, at_most_look, at_most_more, at_most_next, fails_only_look, fails_only_next, fails_only_ok}
 use Rattle.pf_asks.specs.Held.{Answered}
-use Rattle.pf_asks.specs.Looking.{Looked, Stays, look_failed, value_of}
+use Rattle.pf_asks.specs.Looking.{CanFind, Tables, Looked, Stays, look_failed, value_of}
 use Rattle.pf_asks.specs.Led.{AtMost, FailsOnly}
 use Rattle.pf_asks.specs.Tries.{on_ok}
 use Rattle.pf_asks.specs.declared.lookup.Found.{Found}
@@ -75,4 +79,18 @@ stays_counted old new fails counts = record {
   few = omega (arith, counts.finds);
   count = ap length counts.tables;
   sound = refl;
+}
+
+-- tables of all these places are there
+pub can_find_below : (fixed : Fixed) (ids : List TableId) (count : ℕ) → count ≡ length fixed.tables → list_all (λ id. nat_lt id.0 count) ids ≡ true
+    → CanFind (seen fixed) ids
+can_find_below fixed ids count is all = record {
+  sound = refl;
+  there = λ k d lt. rw is at (ltb-true (slice_index_or ids k d).0 count (AllPass-from_list_all (λ id. nat_lt id.0 count) ids all k d lt));
+}
+
+pub can_find_both : {tables : Tables} (xs ys : List TableId) → CanFind tables xs → CanFind tables ys → CanFind tables (xs ++ ys)
+can_find_both {tables = tables} xs ys first second = record {
+  sound = first.sound;
+  there = All-append (λ id. id.0 < tables.count) xs ys first.there second.there;
 }

@@ -100,7 +100,8 @@ pub fn access_around<T: Lookup>(
     domain: &[u8],
     tables: &mut T,
 ) -> Result<End, NoMemory>
-    requires { CanFind (T.tables tables.old) (id ∷ tables_of domains.now) }
+    requires key { CanFind (T.tables tables.old) (id ∷ []) }
+    requires classes { CanFind (T.tables tables.old) (tables_of domains.now) }
     ensures { IfOk result (ByTables (T.tables tables.old) (T.tables tables.new) (spec.access_around id.0 domains.now domain.now)) }
 {
     let before = access(alloc, id, domain, tables)?;

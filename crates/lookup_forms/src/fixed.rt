@@ -1,11 +1,14 @@
 //! Objects in memory: tables, and a service and a resolver that are down.
-ghost use Rattle.std.specs.Prelude.{◌≡◌, ◌<◌, ◌==◌, [], None, Some, length, slice_get, IfOk};
-ghost use Rattle.std.specs.List.{find, list_any};
+ghost use Rattle.std.specs.Prelude.{◌≡◌, ◌<◌, ◌==◌, [], None, Some, true, nat_lt, length, slice_get, IfOk};
+ghost use Rattle.std.specs.List.{find, list_all, list_any};
 ghost use Rattle.std.specs.Option.{ok_or, option_copied};
 ghost use Rattle.std.specs.Str.{bytes_eq};
 ghost use Rattle.pf_base.specs.Unless.{Unless};
+ghost use Rattle.pf_asks.specs.Looking.{CanFind};
+ghost use Rattle.lookup_forms.specs.Classes.{tables_of};
 ghost use Rattle.lookup_forms.specs.Tables as spec;
 
+use crate::class::Domains;
 use pf_asks::{Answer, AskFault, Found, Kind, Links, Lookup, Resolver, TableFault};
 use pf_base::{Failed, List, NoMemory, OuterFault, Pair, TableId};
 use std::alloc::Global;
@@ -48,6 +51,13 @@ fn value_in(alloc: Global, table: &Table, key: &[u8]) -> Result<Found, TableFaul
     }
 }
 
+// Whether all these places are below a number of tables.
+fn are_below(ids: &[TableId], count: u64) -> bool
+    ensures { result ≡ list_all (λ id. nat_lt id.0 count) ids.now }
+{
+    ids.iter().all(|id| id.0 < count)
+}
+
 // Whether a number is among these.
 fn contains(numbers: &[u64], number: u64) -> bool
     ensures { result ≡ list_any (λ n. n == number) numbers.now }
@@ -85,6 +95,26 @@ impl FixedTables {
         }
     }
 
+    fn count(&self) -> u64
+        ensures { result ≡ length self.now.tables }
+    {
+        self.tables.len()
+    }
+
+    /// Whether there are tables of all these places.
+    pub fn has(&self, ids: &[TableId]) -> bool
+        ensures { result ≡ true → CanFind (spec.seen self.now) ids.now }
+    {
+        are_below(ids, self.count())
+    }
+
+    /// Whether there are tables of all the places of these domains.
+    pub fn has_all(&self, domains: &Domains) -> bool
+        ensures { result ≡ true → CanFind (spec.seen self.now) (tables_of domains.now) }
+    {
+        self.has(domains.local.as_slice()) && self.has(domains.relay.as_slice())
+    }
+
     // Counts a lookup, and says whether it fails.
     fn next(&mut self) -> bool
         ensures { spec.Counts self.old self.new result }
@@ -119,7 +149,7 @@ impl Lookup for FixedTables {
 }
 
 /// A service that takes no connection, and tells nothing.
-#[derive(Debug)]
+#[derive(Debug, Drop)]
 pub struct NoService {
     /// How often a call has failed.
     pub faults: u64,
