@@ -1,85 +1,177 @@
 use lookup_forms::{
-    Class, Domains, End, FixedTables, Found, NoService, Restriction, TableFault, class_of,
-    find_first, judge,
+    Class, ClassFault, Domains, End, FixedTables, NoNames, NoService, Restriction, Site, Table,
+    access_around, class_of, find_first, judge,
 };
-use pf_base::{Bytes, List, NoMemory, Pair};
+use pf_asks::{Found, TableFault};
+use pf_base::{Bytes, List, NoMemory, Pair, TableId};
 use std::alloc::Global;
 use std::test::Fail;
 
 // A table of one pair.
-fn table(alloc: Global, key: &[u8], value: &[u8]) -> Result<List<Pair>, NoMemory> {
+fn table(alloc: Global, key: &[u8], value: &[u8]) -> Result<Table, NoMemory> {
     let mut pairs = List::new(alloc);
     pairs.push(Pair {
         key: Bytes::from_slice(alloc, key)?,
         value: Bytes::from_slice(alloc, value)?,
     })?;
-    Ok(pairs)
+    Ok(Table::Pairs(pairs))
 }
 
-// A table of local domains, and one of relay domains.
-fn tables(alloc: Global) -> Result<FixedTables, NoMemory> {
+// A table of local domains, one of relay domains and one that fails. The lookup of this number, from 1, fails.
+fn tables(alloc: Global, failing: u64) -> Result<FixedTables, NoMemory> {
     let mut tables = List::new(alloc);
     tables.push(table(alloc, b"example.com", b"1")?)?;
-    tables.push(table(alloc, b"relay.test", b"2")?)?;
-    Ok(FixedTables { tables })
+    tables.push(table(alloc, b"relay.test", b"OK")?)?;
+    tables.push(Table::Fail)?;
+    let mut numbers = List::new(alloc);
+    numbers.push(failing)?;
+    Ok(FixedTables::new(tables, numbers))
 }
 
 fn domains(alloc: Global) -> Result<Domains, NoMemory> {
     let mut local = List::new(alloc);
-    local.push(0u64)?;
+    local.push(TableId(0))?;
     let mut relay = List::new(alloc);
-    relay.push(1u64)?;
+    relay.push(TableId(1))?;
     Ok(Domains { local, relay })
 }
 
-// A first class, which asks the second one and then the service.
-fn classes(alloc: Global) -> Result<List<List<Restriction>>, NoMemory> {
+// A first class, which asks the second one and then the service; the third asks the resolver.
+fn site(alloc: Global) -> Result<Site, NoMemory> {
     let mut first = List::new(alloc);
     first.push(Restriction::Class(1))?;
     first.push(Restriction::CheckPolicyService)?;
     let mut second = List::new(alloc);
     second.push(Restriction::PermitAuthDestination)?;
+    let mut third = List::new(alloc);
+    third.push(Restriction::RejectUnknownSenderDomain)?;
     let mut classes = List::new(alloc);
     classes.push(first)?;
     classes.push(second)?;
-    Ok(classes)
+    classes.push(third)?;
+    Ok(Site {
+        classes,
+        domains: domains(alloc)?,
+        service: Bytes::from_slice(alloc, b"policy")?,
+    })
+}
+
+// A search in tables that are there.
+fn find(
+    alloc: Global,
+    tables: &mut FixedTables,
+    ids: &[TableId],
+    key: &[u8],
+) -> Result<Found, TableFault> {
+    if !tables.has(ids) {
+        return Err(TableFault::NoMemory);
+    }
+    find_first(alloc, tables, ids, key)
+}
+
+// The class of a domain, where the tables of the classes are there.
+fn class(
+    alloc: Global,
+    tables: &mut FixedTables,
+    domains: &Domains,
+    domain: &[u8],
+) -> Result<Class, ClassFault> {
+    if !tables.has_all(domains) {
+        return Err(ClassFault::NoMemory);
+    }
+    class_of(alloc, tables, domains, domain)
+}
+
+// How a class of restrictions ends, where the tables are there.
+fn class_end(
+    alloc: Global,
+    tables: &mut FixedTables,
+    site: &Site,
+    domain: &[u8],
+    levels: u64,
+    number: u64,
+) -> Result<End, NoMemory> {
+    if !tables.has_all(&site.domains) {
+        return Err(NoMemory);
+    }
+    let mut service = NoService { faults: 0 };
+    judge(
+        alloc,
+        site,
+        domain,
+        levels,
+        number,
+        tables,
+        &mut service,
+        &mut NoNames,
+    )
+}
+
+// How a domain ends that is looked up around its class, where the tables are there.
+fn around(
+    alloc: Global,
+    tables: &mut FixedTables,
+    domains: &Domains,
+    domain: &[u8],
+) -> Result<End, NoMemory> {
+    if !tables.has(&[TableId(1)]) || !tables.has_all(domains) {
+        return Err(NoMemory);
+    }
+    access_around(alloc, TableId(1), domains, domain, tables)
 }
 
 #[test]
 fn tables_are_looked_up_in_turn(rt: HostRuntime) -> Result<(), Fail> {
     let alloc = rt.alloc();
-    let mut tables = tables(alloc)?;
-    let value = Found::Value(Bytes::from_slice(alloc, b"2")?);
-    assert!(rt; find_first(alloc, &mut tables, &[0, 1], b"relay.test") == Ok(value));
-    assert!(rt; find_first(alloc, &mut tables, &[0, 1], b"other.test") == Ok(Found::Absent));
-    assert!(rt; find_first(alloc, &mut tables, &[7, 1], b"relay.test") == Err(TableFault::Fails));
+    let mut tables = tables(alloc, 6)?;
+    let both = [TableId(0), TableId(1)];
+    let value = Found::Value(Bytes::from_slice(alloc, b"OK")?);
+    assert!(rt; find(alloc, &mut tables, &both, b"relay.test") == Ok(value));
+    assert!(rt; find(alloc, &mut tables, &both, b"other.test") == Ok(Found::Absent));
+    let fails = [TableId(2), TableId(1)];
+    assert!(rt; find(alloc, &mut tables, &fails, b"relay.test") == Err(TableFault::Fails));
+    assert!(rt; find(alloc, &mut tables, &both, b"relay.test") == Err(TableFault::Failed));
     Ok(())
 }
 
 #[test]
 fn a_class_is_judged(rt: HostRuntime) -> Result<(), Fail> {
     let alloc = rt.alloc();
-    let mut tables = tables(alloc)?;
-    let domains = domains(alloc)?;
-    let classes = classes(alloc)?;
-    for (domain, levels, class, end) in [
-        (b"example.com".as_slice(), 100, Class::Local, End::Permit),
-        (b"relay.test".as_slice(), 100, Class::Relay, End::Permit),
-        (b"other.test".as_slice(), 100, Class::Other, End::Deny(451)),
-        (b"relay.test".as_slice(), 1, Class::Relay, End::Deny(451)),
-    ] {
-        assert!(rt; class_of(alloc, &mut tables, &domains, domain) == Ok(class));
-        let judged = judge(
-            alloc,
-            classes.as_slice(),
-            &domains,
-            domain,
-            levels,
+    let mut tables = tables(alloc, 0)?;
+    let site = site(alloc)?;
+    for (domain, levels, number, wanted, end) in [
+        (b"example.com".as_slice(), 100, 0, Class::Local, End::Permit),
+        (b"relay.test".as_slice(), 100, 0, Class::Relay, End::Permit),
+        (
+            b"other.test".as_slice(),
+            100,
             0,
-            &mut tables,
-            &mut NoService,
-        )?;
+            Class::Other,
+            End::Deny(451),
+        ),
+        (b"relay.test".as_slice(), 1, 0, Class::Relay, End::Deny(451)),
+        (b"other.test".as_slice(), 1, 2, Class::Other, End::Deny(550)),
+    ] {
+        assert!(rt; class(alloc, &mut tables, &site.domains, domain) == Ok(wanted));
+        let judged = class_end(alloc, &mut tables, &site, domain, levels, number)?;
         assert_eq!(rt; judged, end);
+    }
+    Ok(())
+}
+
+#[test]
+fn an_answer_is_kept_unless_it_failed(rt: HostRuntime) -> Result<(), Fail> {
+    let alloc = rt.alloc();
+    let domains = domains(alloc)?;
+    for (failing, domain, end) in [
+        (0, b"relay.test".as_slice(), End::Permit),
+        (0, b"example.com".as_slice(), End::Permit),
+        (0, b"other.test".as_slice(), End::Through),
+        (1, b"relay.test".as_slice(), End::Deny(451)),
+    ] {
+        let mut tables = tables(alloc, failing)?;
+        let seen = around(alloc, &mut tables, &domains, domain)?;
+        assert_eq!(rt; seen, end);
     }
     Ok(())
 }

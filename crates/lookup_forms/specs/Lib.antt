@@ -1,3 +1,7 @@
+pub mod Access
 pub mod Classes
+pub mod Policy
 pub mod Restrictions
+pub mod Senders
 pub mod Tables
+pub mod Trying

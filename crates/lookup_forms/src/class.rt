@@ -1,19 +1,20 @@
 //! Straight lines over lookups, with a fault of its own.
-ghost use Rattle.std.specs.Prelude.{◌≡◌};
-ghost use Rattle.pf_base.specs.Led.{AskedBy};
+ghost use Rattle.std.specs.Prelude.{◌≡◌, ◌++◌};
 ghost use Rattle.pf_base.specs.Unless.{Unless};
+ghost use Rattle.pf_asks.specs.Led.{ByTables};
+ghost use Rattle.pf_asks.specs.Looking.{CanFind};
 ghost use Rattle.lookup_forms.specs.Classes as classes;
 
 use crate::first::find_first;
-use crate::outside::{Found, Lookup, TableFault};
-use pf_base::List;
+use pf_asks::{Found, Lookup, TableFault};
+use pf_base::{List, TableId};
 use std::alloc::Global;
 
-/// The tables of local domains and of relay domains, by their numbers.
+/// The tables of local domains and of relay domains, by their places.
 #[derive(Debug, Drop)]
 pub struct Domains {
-    pub local: List<u64>,
-    pub relay: List<u64>,
+    pub local: List<TableId>,
+    pub relay: List<TableId>,
 }
 
 /// The class of a domain (ADDRESS_CLASS_README).
@@ -35,10 +36,11 @@ pub enum ClassFault {
 fn is_listed<T: Lookup>(
     alloc: Global,
     tables: &mut T,
-    ids: &[u64],
+    ids: &[TableId],
     domain: &[u8],
 ) -> Result<bool, ClassFault>
-    ensures { Unless result ClassFault.NoMemory (AskedBy (T.tables tables.old) (T.tables tables.new) (classes.is_listed ids.now domain.now)) }
+    requires { CanFind (T.tables tables.old) ids.now }
+    ensures { Unless result ClassFault.NoMemory (ByTables (T.tables tables.old) (T.tables tables.new) (classes.is_listed ids.now domain.now)) }
 {
     match find_first(alloc, tables, ids, domain) {
         Ok(Found::Value(_)) => Ok(true),
@@ -57,7 +59,8 @@ pub fn class_of<T: Lookup>(
     domains: &Domains,
     domain: &[u8],
 ) -> Result<Class, ClassFault>
-    ensures { Unless result ClassFault.NoMemory (AskedBy (T.tables tables.old) (T.tables tables.new) (classes.class_of domains.now domain.now)) }
+    requires { CanFind (T.tables tables.old) (classes.tables_of domains.now) }
+    ensures { Unless result ClassFault.NoMemory (ByTables (T.tables tables.old) (T.tables tables.new) (classes.class_of domains.now domain.now)) }
 {
     if is_listed(alloc, tables, domains.local.as_slice(), domain)? {
         return Ok(Class::Local);

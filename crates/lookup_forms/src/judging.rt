@@ -1,23 +1,29 @@
 //! Nested judging: lists of restrictions that name other lists.
-ghost use Rattle.std.specs.Prelude.{◌≡◌, List as Seq, IfOk};
-ghost use Rattle.pf_base.specs.Led.{AskedBy, Led, Tables, world};
-ghost use Rattle.pf_base.specs.Questions.{done};
-ghost use Rattle.pf_base.specs.declared.pair.Pair.{Pair};
+ghost use Rattle.std.specs.Prelude.{◌≡◌, IfOk};
+ghost use Rattle.pf_asks.specs.Led.{Answers, ByLinks, ByTables, world};
+ghost use Rattle.pf_asks.specs.Looking.{CanFind};
+ghost use Rattle.lookup_forms.specs.Classes.{tables_of};
 ghost use Rattle.lookup_forms.specs.Restrictions as spec;
 
 use crate::class::{Class, ClassFault, Domains, class_of};
-use crate::outside::{Lookup, Service};
-use crate::restrictions::{End, Restriction};
-use pf_base::{List, NoMemory, Outcome};
+use crate::policy::first_reply;
+use crate::restrictions::{End, Restriction, Site};
+use crate::senders::reject_unknown_sender_domain;
+use pf_asks::{Links, Lookup, Resolver};
+use pf_base::{Bytes, List, NoMemory};
 use std::alloc::Global;
 
-fn permit_auth_destination<T: Lookup>(
+// The tries of a policy service.
+const POLICY_TRIES: u64 = 2;
+
+pub(crate) fn permit_auth_destination<T: Lookup>(
     alloc: Global,
     domains: &Domains,
     domain: &[u8],
     tables: &mut T,
 ) -> Result<End, NoMemory>
-    ensures { IfOk result (AskedBy (T.tables tables.old) (T.tables tables.new) (spec.permit_auth_destination domains.now domain.now)) }
+    requires { CanFind (T.tables tables.old) (tables_of domains.now) }
+    ensures { IfOk result (ByTables (T.tables tables.old) (T.tables tables.new) (spec.permit_auth_destination domains.now domain.now)) }
 {
     match class_of(alloc, tables, domains, domain) {
         Ok(Class::Local) => Ok(End::Permit),
@@ -45,13 +51,13 @@ fn accepts(reply: &[u8]) -> bool
     reply == b"action=OK\n\n".as_slice()
 }
 
-// What an outcome says; a service that is down denies for now.
-fn replied(outcome: &Outcome) -> End
-    ensures { result ≡ spec.replied outcome.now }
+// What a reply says; a service that does not reply denies for now.
+fn replied(reply: &Option<Bytes>) -> End
+    ensures { result ≡ spec.replied reply.now }
 {
-    match outcome {
-        Outcome::Down(_) => End::Deny(451),
-        Outcome::Reply(text) => {
+    match reply {
+        None => End::Deny(451),
+        Some(text) => {
             if accepts(text.as_slice()) {
                 End::Permit
             } else {
@@ -61,61 +67,72 @@ fn replied(outcome: &Outcome) -> End
     }
 }
 
-fn check_policy_service<K: Service>(alloc: Global, service: &mut K) -> Result<End, NoMemory>
-    ensures { IfOk result (λ end. (tables : Tables (Seq (Seq Pair))) →
-        Led (world tables (K.left service.old)) (world tables (K.left service.new)) spec.check_policy_service (done end)) }
+fn check_policy_service<K: Links>(
+    alloc: Global,
+    service: &[u8],
+    domain: &[u8],
+    links: &mut K,
+) -> Result<End, NoMemory>
+    ensures { IfOk result (ByLinks (K.held links.old) (K.held links.new) (spec.check_policy_service service.now domain.now)) }
 {
-    let outcome = service.ask(alloc)?;
-    Ok(replied(&outcome))
+    let reply = first_reply(alloc, service, domain, POLICY_TRIES, links)?;
+    Ok(replied(&reply))
 }
 
 #[cycle(judge)]
-fn restriction_end<T: Lookup, K: Service>(
+fn restriction_end<T: Lookup, K: Links, R: Resolver>(
     alloc: Global,
-    classes: &[List<Restriction>],
-    domains: &Domains,
+    site: &Site,
     domain: &[u8],
     levels: u64,
     restriction: Restriction,
     tables: &mut T,
-    service: &mut K,
+    links: &mut K,
+    resolver: &mut R,
 ) -> Result<End, NoMemory>
-    ensures { IfOk result (λ end. Led (world (T.tables tables.old) (K.left service.old)) (world (T.tables tables.new) (K.left service.new))
-        (spec.restriction_end domains.now domain.now (spec.class_end classes.now domains.now domain.now levels) restriction) (done end)) }
+    requires { CanFind (T.tables tables.old) (tables_of site.now.domains) }
+    ensures { IfOk result (Answers (world (T.tables tables.old) (K.held links.old) (R.held resolver.old)) (world (T.tables tables.new) (K.held links.new) (R.held resolver.new))
+        (spec.restriction_end site.now domain.now (spec.class_end site.now domain.now levels) restriction)) }
 {
     match restriction {
         Restriction::PermitAuthDestination => {
-            permit_auth_destination(alloc, domains, domain, tables)
+            permit_auth_destination(alloc, &site.domains, domain, tables)
         }
-        Restriction::CheckPolicyService => check_policy_service(alloc, service),
-        Restriction::Class(i) => judge(alloc, classes, domains, domain, levels, i, tables, service),
+        Restriction::RejectUnknownSenderDomain => {
+            reject_unknown_sender_domain(alloc, domain, resolver)
+        }
+        Restriction::CheckPolicyService => {
+            check_policy_service(alloc, site.service.as_slice(), domain, links)
+        }
+        Restriction::Class(i) => judge(alloc, site, domain, levels, i, tables, links, resolver),
     }
 }
 
 #[cycle(judge)]
-fn list_end<T: Lookup, K: Service>(
+fn list_end<T: Lookup, K: Links, R: Resolver>(
     alloc: Global,
-    classes: &[List<Restriction>],
-    domains: &Domains,
+    site: &Site,
     domain: &[u8],
     levels: u64,
     list: &[Restriction],
     tables: &mut T,
-    service: &mut K,
+    links: &mut K,
+    resolver: &mut R,
 ) -> Result<End, NoMemory>
-    ensures { IfOk result (λ end. Led (world (T.tables tables.old) (K.left service.old)) (world (T.tables tables.new) (K.left service.new))
-        (spec.list_end classes.now domains.now domain.now levels list.now) (done end)) }
+    requires { CanFind (T.tables tables.old) (tables_of site.now.domains) }
+    ensures { IfOk result (Answers (world (T.tables tables.old) (K.held links.old) (R.held resolver.old)) (world (T.tables tables.new) (K.held links.new) (R.held resolver.new))
+        (spec.list_end site.now domain.now levels list.now)) }
 {
     for restriction in list {
         match restriction_end(
             alloc,
-            classes,
-            domains,
+            site,
             domain,
             levels,
             *restriction,
             tables,
-            service,
+            links,
+            resolver,
         )? {
             End::Through => {}
             End::Permit => return Ok(End::Permit),
@@ -128,30 +145,32 @@ fn list_end<T: Lookup, K: Service>(
 /// How the class of this number, from 0, ends for a domain, with so many levels of classes left: a class behind the last
 /// level denies with 451, and one that is not there lets through.
 #[cycle(judge)]
-pub fn judge<T: Lookup, K: Service>(
+pub fn judge<T: Lookup, K: Links, R: Resolver>(
     alloc: Global,
-    classes: &[List<Restriction>],
-    domains: &Domains,
+    site: &Site,
     domain: &[u8],
     levels: u64,
     class: u64,
     tables: &mut T,
-    service: &mut K,
+    links: &mut K,
+    resolver: &mut R,
 ) -> Result<End, NoMemory>
-    ensures { IfOk result (λ end. Led (world (T.tables tables.old) (K.left service.old)) (world (T.tables tables.new) (K.left service.new))
-        (spec.class_end classes.now domains.now domain.now levels class) (done end)) }
+    requires { CanFind (T.tables tables.old) (tables_of site.now.domains) }
+    ensures { IfOk result (Answers (world (T.tables tables.old) (K.held links.old) (R.held resolver.old)) (world (T.tables tables.new) (K.held links.new) (R.held resolver.new))
+        (spec.class_end site.now domain.now levels class)) }
 {
     if levels == 0 {
         return Ok(End::Deny(451));
     }
+    let list = class_at(site.classes.as_slice(), class);
     list_end(
         alloc,
-        classes,
-        domains,
+        site,
         domain,
         levels - 1,
-        class_at(classes, class),
+        list,
         tables,
-        service,
+        links,
+        resolver,
     )
 }

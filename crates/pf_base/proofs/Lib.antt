@@ -2,7 +2,6 @@ pub mod BraceLemmas
 pub mod CutLemmas
 pub mod FileListLemmas
 pub mod FrontLemmas
-pub mod LedLaws
 pub mod LineEnds
 pub mod LogicalLemmas
 pub mod Parts

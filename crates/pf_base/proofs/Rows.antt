@@ -4,12 +4,10 @@ use Rattle.pf_base.specs.Braces.{lone_brace, partner}
 use Rattle.pf_base.specs.Causes.{counted, counted_by}
 use Rattle.pf_base.specs.FileList.{file_of, whole_file, with_file}
 use Rattle.pf_base.specs.Gathering.{followed_by}
-use Rattle.pf_base.specs.Heard.{marked, next_mark, next_outcome}
 use Rattle.pf_base.specs.Lines.{lines, onto_line, rest, unless_line, without_return}
 use Rattle.pf_base.specs.Logical.{grouped, is_ignored, logical_lines_of, physical_lines, starts_with_space}
 use Rattle.pf_base.specs.Memory.{fails_next, greatest_read}
 use Rattle.pf_base.specs.Names.{folded, is_host_name, is_label, is_label_byte, same_in_any_case}
-use Rattle.pf_base.specs.Questions.{look, try, ◌>>=◌}
 use Rattle.pf_base.specs.Objects.{appended, sink_status, sinks}
 use Rattle.pf_base.specs.Printing.{printable, printed_line}
 use Rattle.pf_base.specs.Refusal.{cause_text, name_part, refusal_line}
@@ -19,9 +17,6 @@ use Rattle.pf_base.specs.Statuses.{is_among, without_fault}
 use Rattle.pf_base.specs.TableTexts.{place_of, place_or_next, with_text}
 use Rattle.pf_base.specs.Told.{Output}
 use Rattle.pf_base.specs.Words.{words_of}
-use Rattle.pf_base.specs.declared.links.LinkStep.TheVariants.{Connect, Send}
-use Rattle.pf_base.specs.declared.links.Outcome.{Outcome}
-use Rattle.pf_base.specs.declared.links.Outcome.TheVariants.{Down, Reply}
 use Rattle.pf_base.specs.declared.logical.TextFault.TheVariants.{Continuation}
 use Rattle.pf_base.specs.declared.pair.Pair.{Pair}
 use Rattle.pf_base.specs.declared.refused.Cause.TheVariants.{C2, C14}
@@ -260,39 +255,6 @@ line_with_a_name = refl
 line_without_a_name : refusal_line (record { file = codes "main.cf"; line = 5; cause = C2; name = [] }) ≡ codes "postgate: main.cf:5: C2 no equals sign\n"
 unfolding refusal_line printed_line cause_text digits
 line_without_a_name = refl
-
--- what is heard
-first_mark : next_mark (true ∷ false ∷ []) ≡ (true, false ∷ [])
-first_mark = refl
-
-past_the_marks : next_mark [] ≡ (false, [])
-past_the_marks = refl
-
-past_the_outcomes : next_outcome [] ≡ (Down Connect, [])
-past_the_outcomes = refl
-
-marked_lookups : marked (true ∷ false ∷ true ∷ []) ≡ 2
-marked_lookups = refl
-
--- questions: a lookup that fails, one past the marks, and a try before a lookup that fails
-abbrev marks_of : ℕ → Bool → ℕ × Bool
-marks_of n mark = (n, mark)
-
-a_lookup_that_fails : look marks_of 7 (record { marks = true ∷ []; outcomes = [] }) ≡ ((7, true), record { marks = []; outcomes = [] })
-unfolding look
-a_lookup_that_fails = refl
-
-a_lookup_past_the_marks : look marks_of 7 (record { marks = []; outcomes = [] }) ≡ ((7, false), record { marks = []; outcomes = [] })
-unfolding look
-a_lookup_past_the_marks = refl
-
-abbrev with_mark : Outcome → ℕ → Bool → Outcome × Bool
-with_mark outcome n mark = (outcome, mark)
-
-two_in_turn : (try >>= λ outcome. look (with_mark outcome)) 7 (record { marks = true ∷ []; outcomes = Down Send ∷ Reply [] ∷ [] })
-    ≡ ((Down Send, true), record { marks = []; outcomes = Reply [] ∷ [] })
-unfolding look try ◌>>=◌
-two_in_turn = refl
 
 -- braces
 partner_of_a_brace : partner 0 (codes "a{b}c}d") ≡ Some 5

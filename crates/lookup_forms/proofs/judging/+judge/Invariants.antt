@@ -1,5 +1,5 @@
 use Rattle.std.proofs.Common.{◌+◌, ◌*◌, drop}
-use Rattle.pf_base.specs.Led.{Led, world}
+use Rattle.pf_asks.specs.Led.{Led, world}
 use Rattle.lookup_forms.specs.Restrictions as spec
 use Rattle.lookup_forms.proofs.judging.+judge.Given as goal
 
@@ -14,5 +14,6 @@ decreases-judge g l = 3 * l.levels
 
 abbrev pub invariant-list_end-loop-restriction : goal.invariant-list_end-loop-restriction
 invariant-list_end-loop-restriction g l =
-    Led (world (g.T.Lookup.tables l.initial.tables) (g.K.Service.left l.initial.service)) (world (g.T.Lookup.tables l.tables) (g.K.Service.left l.service))
-    (spec.list_end l.classes l.domains l.domain l.levels l.list) (spec.list_end l.classes l.domains l.domain l.levels (drop l.restriction-index l.list))
+    Led (world (g.T.Lookup.tables l.initial.tables) (g.K.Links.held l.initial.links) (g.R.Resolver.held l.initial.resolver))
+    (world (g.T.Lookup.tables l.tables) (g.K.Links.held l.links) (g.R.Resolver.held l.resolver))
+    (spec.list_end l.site l.domain l.levels l.list) (spec.list_end l.site l.domain l.levels (drop l.restriction-index l.list))

@@ -1,5 +1,5 @@
 use Rattle.std.proofs.Common.{◌≢◌, sym, ◌∙◌}
-use Rattle.pf_base.proofs.LedLaws.{led_first}
+use Rattle.pf_asks.proofs.LedLaws.{led_first}
 use Rattle.lookup_forms.specs.Restrictions as spec
 use Rattle.lookup_forms.specs.declared.class.ClassFault.TheVariants.{LookupFailed, NoMemory}
 use Rattle.lookup_forms.proofs.judging.permit_auth_destination.Goals as goal
@@ -9,17 +9,17 @@ lookup_failed e = cc
 
 pub returns-in-Ok-Local : goal.returns-in-Ok-Local
 unfolding spec.permit_auth_destination
-returns-in-Ok-Local g c = λ s. led_first _ (rw c.in-Ok-Local.field-0-is at (c.in-Ok-Local.ensures s))
+returns-in-Ok-Local g c = λ w. led_first _ (rw c.in-Ok-Local.field-0-is at (c.in-Ok-Local.ensures w))
 
 pub returns-in-Ok-Relay : goal.returns-in-Ok-Relay
 unfolding spec.permit_auth_destination
-returns-in-Ok-Relay g c = λ s. led_first _ (rw c.in-Ok-Relay.field-0-is at (c.in-Ok-Relay.ensures s))
+returns-in-Ok-Relay g c = λ w. led_first _ (rw c.in-Ok-Relay.field-0-is at (c.in-Ok-Relay.ensures w))
 
 pub returns-in-Ok-Other : goal.returns-in-Ok-Other
 unfolding spec.permit_auth_destination
-returns-in-Ok-Other g c = λ s. led_first _ (rw c.in-Ok-Other.field-0-is at (c.in-Ok-Other.ensures s))
+returns-in-Ok-Other g c = λ w. led_first _ (rw c.in-Ok-Other.field-0-is at (c.in-Ok-Other.ensures w))
 
 pub returns-in-Err-LookupFailed : goal.returns-in-Err-LookupFailed
 unfolding spec.permit_auth_destination
-returns-in-Err-LookupFailed g c = λ s.
-    led_first _ (rw c.in-Err-LookupFailed.field-0-is at (c.in-Err-LookupFailed.ensures (λ e. lookup_failed (sym c.in-Err-LookupFailed.field-0-is ∙ e)) s))
+returns-in-Err-LookupFailed g c = λ w.
+    led_first _ (rw c.in-Err-LookupFailed.field-0-is at (c.in-Err-LookupFailed.ensures (λ e. lookup_failed (sym c.in-Err-LookupFailed.field-0-is ∙ e)) w))

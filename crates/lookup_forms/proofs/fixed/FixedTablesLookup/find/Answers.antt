@@ -1,20 +1,15 @@
-use Rattle.std.proofs.Common.{false, arith}
-use Rattle.std.proofs.lemmas.Option.{slice_get_past}
-use Rattle.lookup_forms.specs.Tables as spec
 use Rattle.lookup_forms.proofs.fixed.FixedTablesLookup.find.Goals as goal
+use Rattle.lookup_forms.proofs.TableLemmas.{answered_lookup, failed_lookup, stays_counted}
 
-pub returns-then-id-len-clause-answered : goal.returns-then-id-len-clause-answered
-unfolding spec.answer
-returns-then-id-len-clause-answered c = λ fault. record {
-  mark = false;
-  few = omega arith;
-  is = λ told. rw (slice_get_past c.args.self.now.tables c.args.id (omega (arith, c.len.ensures)));
-}
+pub returns-then-next-clause-answered : goal.returns-then-next-clause-answered
+returns-then-next-clause-answered c = λ fault. failed_lookup c.args.self.now _ c.args.id.0 c.args.key.now (rw c.if-next.true at c.next.ensures)
 
-pub returns-in-Ok-clause-answered : goal.returns-in-Ok-clause-answered
-unfolding spec.answer
-returns-in-Ok-clause-answered c = record {
-  mark = false;
-  few = omega arith;
-  is = λ told. rw (c.at.ensures, ← c.as_slice.ensures, c.in-Ok.ensures);
-}
+pub returns-then-next-clause-stays : goal.returns-then-next-clause-stays
+returns-then-next-clause-stays c = stays_counted c.args.self.now _ _ c.next.ensures
+
+pub returns-clause-stays : goal.returns-clause-stays
+returns-clause-stays c = stays_counted c.args.self.now _ _ c.next.ensures
+
+pub returns-clause-answered : goal.returns-clause-answered
+returns-clause-answered c = answered_lookup c.args.self.now _ c.args.id.0 c.args.key.now _ (rw c.if-next.false at c.next.ensures)
+    (rw c.next.ensures.tables at c.value.ensures)

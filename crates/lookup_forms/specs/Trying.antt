@@ -1,0 +1,48 @@
+-- What calls of one try leave. Words of the code's contracts, between single sends and `one_reply`.
+use Rattle.std.specs.Prelude.{◌≡◌, ◌≢◌, ◌≤◌, ◌++◌, ℕ, List, [], ◌∷◌, Option, None, Some}
+use Rattle.std.specs.List.{count_by}
+use Rattle.pf_asks.specs.Held.{Held, RoseBy}
+use Rattle.pf_asks.specs.Led.{IsSent, tried}
+use Rattle.pf_asks.specs.Wire.{Open, Wire, is_down, next_outcome, reply_bytes, with_left}
+use Rattle.pf_asks.specs.declared.links.LinkStep.TheVariants.{Connect, Send}
+use Rattle.pf_asks.specs.declared.links.Outcome.{Outcome}
+use Rattle.pf_asks.specs.declared.links.Outcome.TheVariants.{Down}
+use Rattle.lookup_forms.specs.Policy.{reply_in}
+
+-- a try has just begun to be read
+abbrev pub fresh : Outcome → Open
+fresh outcome = record { outcome = outcome; left = reply_bytes outcome }
+
+-- of the open try's reply this text was read so far
+abbrev pub HasRead : Option Wire → Option Wire → List ℕ → Type 0
+HasRead None new text = new ≡ None
+HasRead (Some wire) new text = (outcome : Outcome) → wire.opened ≡ Some (fresh outcome)
+    → (left : List ℕ) × (new ≡ Some (with_left wire (fresh outcome) left)) × (reply_bytes outcome ≡ text ++ left)
+
+-- the whole request was sent in a try with this outcome
+abbrev pub IsAnswered : Outcome → Type 0
+IsAnswered outcome = (outcome ≢ Down Connect) × (outcome ≢ Down Send)
+
+-- the open try was read to its end, or as far as it is looked at; the counts of faults are those before and after
+abbrev pub IsRead : Option Wire → Option Wire → ℕ → ℕ → Option (List ℕ) → Type 0
+IsRead None new before now reply = (heard : Outcome) × (new ≡ None) × RoseBy (count_by is_down (heard ∷ [])) before now × (reply ≡ reply_in heard)
+IsRead (Some wire) new before now reply = (outcome : Outcome) → wire.opened ≡ Some (fresh outcome) → IsAnswered outcome
+    → (opened : Option Open) × (new ≡ Some (record wire { opened = opened })) × RoseBy (count_by is_down (outcome ∷ [])) before now
+    × (reply ≡ reply_in outcome)
+
+pub record Reads (old new : Held Wire) (reply : Option (List ℕ)) : Type 0 where
+  pub later : old.faults ≤ new.faults
+  pub read : IsRead old.content new.content old.faults new.faults reply
+
+-- a try of this service was made with this request and may still be open
+abbrev pub IsTried : Option Wire → Option Wire → List ℕ → List ℕ → Outcome → Type 0
+IsTried None new service text heard = new ≡ None
+IsTried (Some wire) new service text heard = (sent : List ℕ) × (opened : Option Open)
+    × IsSent heard text sent × (heard ≡ (next_outcome wire.outcomes).0) × (new ≡ Some (record (tried service sent wire) { opened = opened }))
+
+pub record Tries (old new : Held Wire) (service text : List ℕ) (reply : Option (List ℕ)) : Type 0 where
+  pub heard : Outcome
+  pub later : old.faults ≤ new.faults
+  pub few : RoseBy (count_by is_down (heard ∷ [])) old.faults new.faults
+  pub is : reply ≡ reply_in heard
+  pub tried : IsTried old.content new.content service text heard

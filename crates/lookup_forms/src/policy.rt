@@ -1,0 +1,82 @@
+//! Tries of a policy service.
+ghost use Rattle.std.specs.Prelude.{◌≡◌, IfOk};
+ghost use Rattle.pf_asks.specs.Led.{ByLinks};
+ghost use Rattle.lookup_forms.specs.Policy as spec;
+ghost use Rattle.lookup_forms.specs.Trying.{Reads, Tries};
+
+use pf_asks::Links;
+use pf_base::{Bytes, Failed, NoMemory, OuterFault};
+use std::alloc::Global;
+
+/// The most bytes of a reply.
+pub const REPLY_LIMIT: u64 = 4096;
+
+// Reads the reply of the open try; None where it cannot be read or is longer than the limit.
+fn read_reply<K: Links>(alloc: Global, links: &mut K) -> Result<Option<Bytes>, NoMemory>
+    ensures { IfOk result (Reads (K.held links.old) (K.held links.new)) }
+{
+    let mut text = Bytes::new(alloc);
+    let mut buf = [0; 512];
+    while text.len() <= REPLY_LIMIT {
+        match links.receive(&mut buf) {
+            Err(Failed) => return Ok(None),
+            Ok(0) => return Ok(Some(text)),
+            Ok(n) => text.extend(&buf[..n])?,
+        }
+    }
+    Ok(None)
+}
+
+// Makes a try and leaves it open.
+fn converse<K: Links>(
+    alloc: Global,
+    service: &[u8],
+    text: &[u8],
+    links: &mut K,
+) -> Result<Option<Bytes>, NoMemory>
+    ensures { IfOk result (Tries (K.held links.old) (K.held links.new) service.now text.now) }
+{
+    match links.connect(service) {
+        Ok(()) => {}
+        Err(OuterFault::Failed) => return Ok(None),
+        Err(OuterFault::NoMemory) => return Err(NoMemory),
+    }
+    match links.send(text) {
+        Ok(()) => {}
+        Err(OuterFault::Failed) => return Ok(None),
+        Err(OuterFault::NoMemory) => return Err(NoMemory),
+    }
+    read_reply(alloc, links)
+}
+
+// One try with the whole request; None where it was down or its reply is longer than the limit.
+fn one_reply<K: Links>(
+    alloc: Global,
+    service: &[u8],
+    text: &[u8],
+    links: &mut K,
+) -> Result<Option<Bytes>, NoMemory>
+    ensures { IfOk result (ByLinks (K.held links.old) (K.held links.new) (spec.one_reply service.now text.now)) }
+{
+    let reply = converse(alloc, service, text, links);
+    links.hang_up();
+    reply
+}
+
+/// The first reply of at most so many tries of a service, each with the whole request; None where none of them replied.
+pub fn first_reply<K: Links>(
+    alloc: Global,
+    service: &[u8],
+    text: &[u8],
+    tries: u64,
+    links: &mut K,
+) -> Result<Option<Bytes>, NoMemory>
+    ensures { IfOk result (ByLinks (K.held links.old) (K.held links.new) (spec.first_reply service.now text.now tries)) }
+{
+    for _ in 0..tries {
+        if let Some(reply) = one_reply(alloc, service, text, links)? {
+            return Ok(Some(reply));
+        }
+    }
+    Ok(None)
+}

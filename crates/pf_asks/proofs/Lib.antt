@@ -1,0 +1,4 @@
+pub mod CountLaws
+pub mod HeldLaws
+pub mod LedLaws
+pub mod Rows

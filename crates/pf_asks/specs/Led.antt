@@ -1,0 +1,117 @@
+-- What contracts say of a call that asks: it led from one question to another. Words of contracts, by no standard.
+use Rattle.std.specs.Prelude.{◌≡◌, ◌≤◌, ◌+◌, ◌++◌, ℕ, List, [], ◌∷◌, Option, None, Some, Err, take, length}
+use Rattle.std.specs.List.{count_by}
+use Rattle.pf_asks.specs.Heard.{Heard, ◌then◌}
+use Rattle.pf_asks.specs.Held.{Held, Hears, RoseBy, Tells, failures}
+use Rattle.pf_asks.specs.Looking.{Looked, Stays, Tables, look_failed}
+use Rattle.pf_asks.specs.Questions.{Ask, Means, behind, done}
+use Rattle.pf_asks.specs.Resolving.{ask_failed}
+use Rattle.pf_asks.specs.Tries.{Try}
+use Rattle.pf_asks.specs.Wire.{Wire, is_down, next_outcome}
+use Rattle.pf_asks.specs.declared.links.LinkStep.TheVariants.{Connect, Send, Receive}
+use Rattle.pf_asks.specs.declared.links.Outcome.{Outcome}
+use Rattle.pf_asks.specs.declared.links.Outcome.TheVariants.{Down, Reply}
+use Rattle.pf_asks.specs.declared.links.Request.{Request}
+use Rattle.pf_asks.specs.declared.resolver.Row.{Row}
+
+-- what was sent of a request: nothing where the connection was refused, a front where sending failed, else all of it
+abbrev pub IsSent : Outcome → List ℕ → List ℕ → Type 0
+IsSent (Down Connect) text sent = sent ≡ []
+IsSent (Down Send) text sent = (n : ℕ) × (sent ≡ take n text)
+IsSent (Down Receive) text sent = sent ≡ text
+IsSent (Reply bytes) text sent = sent ≡ text
+
+-- a try of this service was made, was sent this, and is over
+abbrev pub tried : List ℕ → List ℕ → Wire → Wire
+tried service sent wire = record {
+  outcomes = (next_outcome wire.outcomes).1;
+  tries = wire.tries ++ (record { service = service; text = sent } ∷ []);
+  opened = None;
+}
+
+-- the requests were made in turn, one a try, and each try gave the next outcome
+abbrev pub Uses : Wire → List Request → List Outcome → Wire → Type 0
+Uses old [] [] new = new ≡ old
+Uses old [] (outcome ∷ outcomes) new = ⊥
+Uses old (request ∷ asked) [] new = ⊥
+Uses old (request ∷ asked) (outcome ∷ outcomes) new =
+    (sent : List ℕ) × IsSent outcome request.text sent × (outcome ≡ (next_outcome old.outcomes).0) × Uses (tried request.service sent old) asked outcomes new
+
+-- the same of links, which may tell nothing
+abbrev pub UsesTold : Option Wire → List Request → List Outcome → Option Wire → Type 0
+UsesTold None asked heard new = new ≡ None
+UsesTold (Some wire) asked heard new = (after : Wire) × (new ≡ Some after) × Uses wire asked heard after
+
+-- this was heard of some lookups
+pub record Looks (old new : Tables) (heard : List (Option Looked)) : Type 0 where
+  pub stays : Stays (length heard) old new
+  pub hears : Hears look_failed old.held new.held heard
+
+-- this was heard of some tries; at most as many were down as the count of faults rose
+pub record Links (old new : Held Wire) (asked : List Request) (heard : List Outcome) : Type 0 where
+  pub later : old.faults ≤ new.faults
+  pub few : RoseBy (count_by is_down heard) old.faults new.faults
+  pub uses : UsesTold old.content asked heard new.content
+
+-- what is asked: tables, policy services, and a resolver
+pub record World : Type 0 where
+  pub tables : Tables
+  pub links : Held Wire
+  pub resolver : Held (List Row)
+
+abbrev pub world : Tables → Held Wire → Held (List Row) → World
+world tables links resolver = record { tables = tables; links = links; resolver = resolver }
+
+-- what the objects that tell mean
+pub record Meant (w : World) (means : Means) : Type 0 where
+  pub values : Tells w.tables.held.content means.values
+  pub rows : Tells w.resolver.content means.rows
+
+-- something is heard, and requests are made, that lead from the one question to the other, whatever is heard behind it
+pub record Led {A : Type 0} (old new : World) (p q : Ask A) : Type 0 where
+  pub heard : Heard
+  pub asked : List Request
+  pub tables : Looks old.tables new.tables heard.looks
+  pub links : Links old.links new.links asked heard.tries
+  pub resolver : Hears ask_failed old.resolver new.resolver heard.asks
+  pub is : (means : Means) → Meant old means → (more : Heard) → p means (heard then more) ≡ behind asked (q means more)
+
+-- the objects have answered a question so
+abbrev pub Answers : {A : Type 0} → World → World → Ask A → A → Type 0
+Answers old new p x = Led old new p (done x)
+
+-- tables alone have led from the one question to the other
+abbrev pub TablesLed : {A : Type 0} → Tables → Tables → Ask A → Ask A → Type 0
+TablesLed old new p q = (w : World) → Led (record w { tables = old }) (record w { tables = new }) p q
+
+-- policy services alone have
+abbrev pub LinksLed : {A : Type 0} → Held Wire → Held Wire → Ask A → Ask A → Type 0
+LinksLed old new p q = (w : World) → Led (record w { links = old }) (record w { links = new }) p q
+
+-- the resolver alone has
+abbrev pub ResolverLed : {A : Type 0} → Held (List Row) → Held (List Row) → Ask A → Ask A → Type 0
+ResolverLed old new p q = (w : World) → Led (record w { resolver = old }) (record w { resolver = new }) p q
+
+-- they have answered a question so
+abbrev pub ByTables : {A : Type 0} → Tables → Tables → Ask A → A → Type 0
+ByTables old new p x = TablesLed old new p (done x)
+
+abbrev pub ByLinks : {A : Type 0} → Held Wire → Held Wire → Ask A → A → Type 0
+ByLinks old new p x = LinksLed old new p (done x)
+
+abbrev pub ByResolver : {A : Type 0} → Held (List Row) → Held (List Row) → Ask A → A → Type 0
+ByResolver old new p x = ResolverLed old new p (done x)
+
+-- two questions are answered alike
+pub record Same {A : Type 0} (p q : Ask A) : Type 0 where
+  pub same : (means : Means) (heard : Heard) → p means heard ≡ q means heard
+
+-- a question makes at most so many lookups
+pub record AtMost {A : Type 0} (n : ℕ) (p : Ask A) : Type 0 where
+  pub looks : (means : Means) (heard : Heard) → length heard.looks ≤ length (p means heard).left.looks + n
+
+-- this fault comes only where a lookup that is heard failed from outside
+pub record FailsOnly {E A : Type 0} (fault : E) (p : Try E A) : Type 0 where
+  pub fails : (means : Means) (heard : Heard) → (p means heard).answer ≡ Err fault
+      → failures look_failed (p means heard).left.looks + 1 ≤ failures look_failed heard.looks
+  pub less : (means : Means) (heard : Heard) → failures look_failed (p means heard).left.looks ≤ failures look_failed heard.looks
