@@ -1,0 +1,5 @@
+pub mod DamageLaws
+pub mod FirstLemmas
+pub mod HeldLaws
+pub mod SearchLaws
+pub mod WordLemmas
