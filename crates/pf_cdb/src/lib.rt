@@ -6,11 +6,13 @@ mod checking;
 mod damage;
 mod hashing;
 mod layout;
+mod listing;
 mod search;
 mod span;
 
 pub use checking::check;
 pub use damage::Damage;
 pub use hashing::hash;
+pub use listing::elements;
 pub use search::find;
 pub use span::Span;

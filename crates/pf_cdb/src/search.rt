@@ -40,8 +40,8 @@ pub(crate) fn find_record(file: &[u8], key: &[u8]) -> Option<u32>
     None
 }
 
-/// Where the value of a key stands in a file that `check` accepts; None where the file has no such key. It takes no memory.
-pub fn find(file: &[u8], key: &[u8]) -> Option<Span>
+// Where the value of a key stands.
+fn find_span(file: &[u8], key: &[u8]) -> Option<Span>
     requires { IsSound file.now }
     ensures span { result ≡ option_map (value_span file.now) (held file.now key.now) }
     ensures within { IfSome result (λ span. (span.start ≤ span.end) × (span.end ≤ length file.now)) }
@@ -50,4 +50,15 @@ pub fn find(file: &[u8], key: &[u8]) -> Option<Span>
         Some(at) => Some(value_span(file, at)),
         None => None,
     }
+}
+
+/// Where the value of a key stands in a file that `check` accepts; None where the file has no such key. It takes no memory.
+pub fn find(file: &[u8], key: &[u8]) -> Option<Span>
+    requires { IsSound file.now }
+    ensures span { result ≡ option_map (value_span file.now) (held file.now key.now) }
+    ensures value { option_map (λ span. slice_range file.now span.start span.end) result
+        ≡ option_map (λ pair. pair.value) (find (λ pair. bytes_eq pair.key key.now) (elements_of file.now)) }
+    ensures within { IfSome result (λ span. (span.start ≤ span.end) × (span.end ≤ length file.now)) }
+{
+    find_span(file, key)
 }

@@ -1,12 +1,9 @@
-use Rattle.std.proofs.Common.{◌∙◌, sym, arith}
-use Rattle.pf_cdb.proofs.HeldLaws.{held_lies, span_within}
+use Rattle.std.proofs.Common.{ap, ◌∙◌}
+use Rattle.std.specs.Prelude.{slice_range}
+use Rattle.std.specs.Option.{option_map}
+use Rattle.pf_cdb.proofs.PairLaws.{value_of_key}
 use Rattle.pf_cdb.proofs.search.find.Goals as goal
 
-pub value_span-requires : goal.value_span-requires
-value_span-requires c =
-    let lies = held_lies c.args.file.now c.args.key.now c.in-Some.at c.requires (sym c.find_record.ensures ∙ c.in-Some.is) in omega arith
-
-pub returns-in-Some-clause-within : goal.returns-in-Some-clause-within
-returns-in-Some-clause-within c =
-    rw c.value_span.ensures (span_within c.args.file.now c.in-Some.at
-    (held_lies c.args.file.now c.args.key.now c.in-Some.at c.requires (sym c.find_record.ensures ∙ c.in-Some.is)))
+pub returns-clause-value : goal.returns-clause-value
+returns-clause-value c =
+    ap (option_map (λ span. slice_range c.args.file.now span.start span.end)) c.find_span.ensures.span ∙ value_of_key c.args.file.now c.args.key.now c.requires
