@@ -7,8 +7,10 @@ mod damage;
 mod hashing;
 mod layout;
 mod listing;
+mod placing;
 mod search;
 mod span;
+mod writing;
 
 pub use checking::check;
 pub use damage::Damage;
@@ -16,3 +18,4 @@ pub use hashing::hash;
 pub use listing::elements;
 pub use search::find;
 pub use span::Span;
+pub use writing::WriteFault;

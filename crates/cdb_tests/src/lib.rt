@@ -1,0 +1,9 @@
+//! Tests of cdb files.
+#![tactic(auto)]
+
+#[cfg(test)]
+mod check_tests;
+#[cfg(test)]
+mod files;
+#[cfg(test)]
+mod find_tests;
