@@ -9,7 +9,9 @@ const THREE_RECORDS: &[u8] =
 
 /// The hashes of `aa`, `ii` and `qq`, all of table 37.
 pub const AA: u32 = 0x596E25;
+
 pub const II: u32 = 0x596F25;
+
 pub const QQ: u32 = 0x597025;
 
 /// A file with table 37 alone, whose slots stand from `at` to `end`.

@@ -39,7 +39,10 @@ fn keys_have_their_values(rt: HostRuntime) -> Result<(), Fail> {
     ] {
         assert_eq!(rt; value(file, key.as_bytes()), found);
     }
-    assert_eq!(rt; listed(alloc, file)?.as_slice(), b"aa|1|ii|2|qq|3|".as_slice());
+    assert_eq!(rt;
+        listed(alloc, file)?.as_slice(),
+        b"aa|1|ii|2|qq|3|".as_slice()
+    );
     Ok(())
 }
 
@@ -49,14 +52,38 @@ fn the_first_record_of_a_key_counts(rt: HostRuntime) -> Result<(), Fail> {
     let records =
         b"\x02\x00\x00\x00\x01\x00\x00\x00aa1\x02\x00\x00\x00\x01\x00\x00\x00aa9".as_slice();
     // the first slot of the key is slot 2 of 4
-    let first = file_of(alloc, records, 2070, 2102, &[(0, 0), (0, 0), (AA, 2048), (AA, 2059)])?;
+    let first = file_of(
+        alloc,
+        records,
+        2070,
+        2102,
+        &[(0, 0), (0, 0), (AA, 2048), (AA, 2059)],
+    )?;
     assert_eq!(rt; value(first.as_slice(), b"aa"), Some(b"1".as_slice()));
-    assert_eq!(rt; listed(alloc, first.as_slice())?.as_slice(), b"aa|1|".as_slice());
-    let second = file_of(alloc, records, 2070, 2102, &[(0, 0), (0, 0), (AA, 2059), (AA, 2048)])?;
+    assert_eq!(rt;
+        listed(alloc, first.as_slice())?.as_slice(),
+        b"aa|1|".as_slice()
+    );
+    let second = file_of(
+        alloc,
+        records,
+        2070,
+        2102,
+        &[(0, 0), (0, 0), (AA, 2059), (AA, 2048)],
+    )?;
     assert_eq!(rt; value(second.as_slice(), b"aa"), Some(b"9".as_slice()));
-    assert_eq!(rt; listed(alloc, second.as_slice())?.as_slice(), b"aa|9|".as_slice());
+    assert_eq!(rt;
+        listed(alloc, second.as_slice())?.as_slice(),
+        b"aa|9|".as_slice()
+    );
     // and is reached from it alone
-    let before = file_of(alloc, records, 2070, 2102, &[(0, 0), (AA, 2048), (0, 0), (0, 0)])?;
+    let before = file_of(
+        alloc,
+        records,
+        2070,
+        2102,
+        &[(0, 0), (AA, 2048), (0, 0), (0, 0)],
+    )?;
     assert_eq!(rt; check(before.as_slice()), Ok(()));
     assert_eq!(rt; value(before.as_slice(), b"aa"), None);
     assert_eq!(rt; listed(alloc, before.as_slice())?.len(), 0);

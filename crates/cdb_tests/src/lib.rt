@@ -7,3 +7,5 @@ mod check_tests;
 mod files;
 #[cfg(test)]
 mod find_tests;
+#[cfg(test)]
+mod write_tests;

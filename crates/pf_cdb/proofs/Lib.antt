@@ -4,6 +4,7 @@ pub mod FileLaws
 pub mod FirstLemmas
 pub mod HeldLaws
 pub mod ListLaws
+pub mod OutcomeLaws
 pub mod PairLaws
 pub mod PlaceLaws
 pub mod RangeLaws

@@ -1,12 +1,10 @@
 -- A table that is filled: each slot finds room, and each is reached from its hash afterwards.
-use Rattle.std.proofs.Common.{◌≡◌, ◌≢◌, ◌+◌, ◌-◌, ◌*◌, ◌/◌, ◌%◌, ◌<◌, ◌≤◌, ℕ, zero, suc, Bool, true, false, not, cond, List, [], ◌∷◌, ◌++◌, length, take, get_or, set, replicate, refl, ap, ◌∙◌, sym, subst, arith, add-one, ⊎_elim}
-use Rattle.std.specs.List.{All, count_by, fold, prefix_len, sum_by}
-use Rattle.std.specs.Prelude.{◌==◌}
-use Rattle.std.proofs.lemmas.Bool.{cases_Bool, cases_eq, cases_lt, eq-eqb, true≢false}
-use Rattle.std.proofs.lemmas.List.{get_or-replicate, get_or_default, get_or-set_other, get_or-set_same, length-replicate, length-set, length-take-le, set_past, take_all}
-use Rattle.std.proofs.lemmas.List.Elements.{All-cons, All-head, All-replicate, All-set, All-tail}
+use Rattle.std.proofs.Common.{◌≡◌, ◌+◌, ◌-◌, ◌*◌, ◌/◌, ◌%◌, ◌<◌, ◌≤◌, ℕ, zero, suc, Bool, true, false, not, cond, List, [], ◌∷◌, length, take, get_or, set, replicate, refl, ap, ◌∙◌, sym, subst, arith, add-one, ⊎_elim}
+use Rattle.std.specs.List.{count_by, fold, prefix_len}
+use Rattle.std.proofs.lemmas.Bool.{cases_lt, eq-eqb}
+use Rattle.std.proofs.lemmas.List.{get_or_default, length-replicate, length-set, length-take-le, set_past, take_all}
 use Rattle.std.proofs.lemmas.List.Folds.{sum_by-replicate}
-use Rattle.std.proofs.lemmas.List.Sums.{count_by-le-length, count_by_more_yes, prefix_len_is, sum_by-set}
+use Rattle.std.proofs.lemmas.List.Sums.{count_by_more_yes, prefix_len_is, sum_by-set}
 use Rattle.std.proofs.lemmas.Nat.{div-add-mod', mod-mul-add, mod_below}
 use native.Mathlib.Nat.{add-mul}
 use Rattle.pf_cdb.proofs.SearchLaws.{get_tried, length_tried}
@@ -23,9 +21,9 @@ unfolding put
 put_is slots slot step low used free =
     let within : step < length (tried slots slot.hash) = omega (arith, length_tried slots slot.hash) in
     let first : prefix_len is_used (tried slots slot.hash) ≡ step =
-      prefix_len_is is_used (tried slots slot.hash) step empty (omega arith)
-        (λ k less. ap is_used (get_tried slots slot.hash k empty (omega arith)) ∙ used k less)
-        (λ _. ap is_used (get_tried slots slot.hash step empty low) ∙ free) in
+    prefix_len_is is_used (tried slots slot.hash) step empty (omega arith)
+    (λ k less. ap is_used (get_tried slots slot.hash k empty (omega arith)) ∙ used k less)
+    (λ _. ap is_used (get_tried slots slot.hash step empty low) ∙ free) in
     ap (λ n. set slots ((slot.hash / 256 + n) % length slots) slot) (sym first)
 
 -- going round, each place is come to
@@ -34,12 +32,18 @@ rotates a n i low =
     let split = div-add-mod' a n in
     let rest : a % n < n = mod_below a n (omega arith) in
     ⊎_elim {A = a % n < i + 1} {B = i + 1 ≤ a % n}
-      (λ here. (i - a % n, omega arith,
-        (let e : a + (i - a % n) ≡ a / n * n + i = omega arith in ap (λ m. m % n) e ∙ mod-mul-add (a / n) n i low)))
-      (λ past. (i + n - a % n, omega arith,
-        (let twice = add-mul (a / n) 1 n in
-         let e : a + (i + n - a % n) ≡ (a / n + 1) * n + i = omega arith in ap (λ m. m % n) e ∙ mod-mul-add (a / n + 1) n i low)))
-      (cases_lt (a % n) (i + 1))
+    (λ here. (
+      i - a % n,
+      omega arith,
+      (let e : a + (i - a % n) ≡ a / n * n + i = omega arith in ap (λ m. m % n) e ∙ mod-mul-add (a / n) n i low),
+    ))
+    (λ past. (
+      i + n - a % n,
+      omega arith,
+      (let twice = add-mul (a / n) 1 n in
+          let e : a + (i + n - a % n) ≡ (a / n + 1) * n + i = omega arith in ap (λ m. m % n) e ∙ mod-mul-add (a / n + 1) n i low),
+    ))
+    (cases_lt (a % n) (i + 1))
 
 count_front : (slots : List Slot) (n : ℕ) → n ≤ length slots → ((i : ℕ) → i < n → is_used (get_or slots i empty) ≡ true) → count_by is_used (take n slots) ≡ n
 count_front slots zero low used = refl
@@ -54,8 +58,8 @@ pub all_used : (slots : List Slot) (hash : ℕ) → ((k : ℕ) → k < length sl
 all_used slots hash used =
     ap (count_by is_used) (sym (take_all (length slots) slots (omega arith)))
     ∙ count_front slots (length slots) (omega arith) (λ i low.
-        let (j, within, at) = rotates (hash / 256) (length slots) i low in
-        ap (λ k. is_used (get_or slots k empty)) (sym at) ∙ used j within)
+    let (j, within, at) = rotates (hash / 256) (length slots) i low in
+    ap (λ k. is_used (get_or slots k empty)) (sym at) ∙ used j within)
 
 one_at_most : (b : Bool) → cond b 1 0 ≤ 1
 one_at_most true = omega arith
@@ -64,9 +68,9 @@ one_at_most false = omega arith
 count_set : (slots : List Slot) (i : ℕ) (slot : Slot) → count_by is_used (set slots i slot) ≤ count_by is_used slots + 1
 count_set slots i slot =
     ⊎_elim {A = i < length slots} {B = length slots ≤ i}
-      (λ low. omega (arith, sum_by-set (λ s. cond (is_used s) 1 0) slots i slot empty low, one_at_most (is_used slot)))
-      (λ past. rw (set_past slots i slot past) (omega arith))
-      (cases_lt i (length slots))
+    (λ low. omega (arith, sum_by-set (λ s. cond (is_used s) 1 0) slots i slot empty low, one_at_most (is_used slot)))
+    (λ past. rw (set_past slots i slot past) (omega arith))
+    (cases_lt i (length slots))
 
 pub count_put : (slots : List Slot) (slot : Slot) → count_by is_used (put slots slot) ≤ count_by is_used slots + 1
 unfolding put
@@ -92,8 +96,14 @@ pub has_room : (placed : List Slot) (i : ℕ) → i < length placed
     → count_by is_used (fold put (replicate (2 * length placed) empty) (take i placed)) < length (fold put (replicate (2 * length placed) empty) (take i placed))
 has_room placed i low =
     let start = replicate (2 * length placed) empty in
-    omega (arith, count_puts start (take i placed), count_empty (2 * length placed), length_puts start (take i placed), length-replicate (2 * length placed) empty,
-      length-take-le i placed (omega arith))
+    omega (
+      arith,
+      count_puts start (take i placed),
+      count_empty (2 * length placed),
+      length_puts start (take i placed),
+      length-replicate (2 * length placed) empty,
+      length-take-le i placed (omega arith),
+    )
 
 pub length_filled : (slots : List Slot) → length (filled slots) ≡ 2 * length slots
 unfolding filled

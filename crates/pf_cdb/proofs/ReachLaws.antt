@@ -1,8 +1,8 @@
 -- Each slot that is put into a table is reached from its hash, and stays so.
-use Rattle.std.proofs.Common.{◌≡◌, ◌≢◌, ◌+◌, ◌*◌, ◌/◌, ◌%◌, ◌<◌, ◌≤◌, ℕ, zero, suc, Bool, true, false, List, [], ◌∷◌, length, get_or, set, replicate, refl, ap, ◌∙◌, sym, subst, arith, ⊎_elim}
+use Rattle.std.proofs.Common.{◌≡◌, ◌+◌, ◌*◌, ◌/◌, ◌%◌, ◌<◌, ◌≤◌, ℕ, zero, suc, true, false, List, [], ◌∷◌, length, get_or, replicate, ap, ◌∙◌, sym, arith, ⊎_elim}
 use Rattle.std.specs.List.{All, count_by, fold, prefix_len}
 use Rattle.std.proofs.lemmas.Bool.{cases_lt, true≢false}
-use Rattle.std.proofs.lemmas.List.{get_or-set_other, get_or-set_same, length-replicate, length-set}
+use Rattle.std.proofs.lemmas.List.{get_or-set_other, get_or-set_same, length-replicate}
 use Rattle.std.proofs.lemmas.List.Elements.{All-head, All-replicate, All-set, All-tail}
 use Rattle.std.proofs.lemmas.List.Sums.{prefix_len_passes, prefix_len_stops}
 use Rattle.std.proofs.lemmas.Nat.{mod_below}
@@ -27,9 +27,9 @@ used_before slots hash k low less =
 free_low : (slots : List Slot) (hash : ℕ) → count_by is_used slots < length slots → free_step slots hash < length slots
 free_low slots hash room =
     ⊎_elim {A = free_step slots hash < length slots} {B = length slots ≤ free_step slots hash}
-      (λ low. low)
-      (λ past. absurd (omega (arith, all_used slots hash (λ k low. used_before slots hash k low (omega arith)))))
-      (cases_lt (free_step slots hash) (length slots))
+    (λ low. low)
+    (λ past. absurd (omega (arith, all_used slots hash (λ k low. used_before slots hash k low (omega arith)))))
+    (cases_lt (free_step slots hash) (length slots))
 
 is_free : (slots : List Slot) (hash : ℕ) → count_by is_used slots < length slots → is_used (get_or slots (free_place slots hash) empty) ≡ false
 is_free slots hash room =
@@ -43,7 +43,7 @@ put_other : (slots : List Slot) (slot : Slot) (i : ℕ) → count_by is_used slo
 unfolding put
 put_other slots slot i room used =
     get_or-set_other slots (free_place slots slot.hash) i slot empty
-      (λ same. true≢false (sym used ∙ ap (λ k. is_used (get_or slots k empty)) same ∙ is_free slots slot.hash room))
+    (λ same. true≢false (sym used ∙ ap (λ k. is_used (get_or slots k empty)) same ∙ is_free slots slot.hash room))
 
 put_same : (slots : List Slot) (slot : Slot) → count_by is_used slots < length slots → get_or (put slots slot) (free_place slots slot.hash) empty ≡ slot
 unfolding put
@@ -70,8 +70,8 @@ put_reaches slots slot room =
       low = omega (arith, length_put slots slot);
       at = ap (λ n. get_or (put slots slot) ((slot.hash / 256 + free_step slots slot.hash) % n) empty) (length_put slots slot) ∙ put_same slots slot room;
       before = λ k less.
-        let used = used_before slots slot.hash k (omega arith) less in
-        ap is_used (step_kept slots slot slot.hash k room used) ∙ used;
+          let used = used_before slots slot.hash k (omega arith) less in
+          ap is_used (step_kept slots slot slot.hash k room used) ∙ used;
     }
 
 put_keeps : (slots : List Slot) (slot other : Slot) → count_by is_used slots < length slots → is_used other ≡ true → IsReached slots other
@@ -83,7 +83,7 @@ put_keeps slots slot other room used reached =
       low = omega (arith, length_put slots slot, reached.low);
       at = step_kept slots slot other.hash reached.step room here ∙ reached.at;
       before = λ k less.
-        ap is_used (step_kept slots slot other.hash k room (reached.before k less)) ∙ reached.before k less;
+          ap is_used (step_kept slots slot other.hash k room (reached.before k less)) ∙ reached.before k less;
     }
 
 puts_keep : (slots more : List Slot) (other : Slot) → count_by is_used slots + length more ≤ length slots → is_used other ≡ true → IsReached slots other
@@ -91,7 +91,7 @@ puts_keep : (slots more : List Slot) (other : Slot) → count_by is_used slots +
 puts_keep slots [] other room used reached = reached
 puts_keep slots (slot ∷ more) other room used reached =
     puts_keep (put slots slot) more other (omega (arith, count_put slots slot, length_put slots slot)) used
-      (put_keeps slots slot other (omega arith) used reached)
+    (put_keeps slots slot other (omega arith) used reached)
 
 puts_reach : (slots more : List Slot) (i : ℕ) → count_by is_used slots + length more ≤ length slots → i < length more
     → is_used (get_or more i empty) ≡ true → IsReached (fold put slots more) (get_or more i empty)
@@ -105,7 +105,7 @@ pub filled_reaches : (slots : List Slot) (i : ℕ) → i < length slots → is_u
 unfolding filled
 filled_reaches slots i low used =
     puts_reach (replicate (2 * length slots) empty) slots i
-      (omega (arith, count_empty (2 * length slots), length-replicate (2 * length slots) empty)) low used
+    (omega (arith, count_empty (2 * length slots), length-replicate (2 * length slots) empty)) low used
 
 -- what holds of the empty slot and of each slot that is put holds of the whole table
 all_put : (P : Slot → Type 0) (slots : List Slot) (slot : Slot) → P slot → All P slots → All P (put slots slot)

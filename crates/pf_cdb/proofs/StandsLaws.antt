@@ -1,5 +1,5 @@
 -- Bytes that stand at a place of a file, and what is read there.
-use Rattle.std.proofs.Common.{◌≡◌, ◌+◌, ◌<◌, ◌≤◌, ◌^◌, ℕ, zero, suc, List, [], ◌∷◌, ◌++◌, length, take, drop, get_or, refl, ap, ◌∙◌, sym, subst, arith}
+use Rattle.std.proofs.Common.{◌≡◌, ◌+◌, ◌<◌, ◌^◌, ℕ, zero, suc, List, [], ◌∷◌, ◌++◌, length, take, drop, get_or, refl, ap, ◌∙◌, sym, subst, arith}
 use Rattle.std.specs.Int.{from_le_bytes, w32}
 use Rattle.std.specs.List.{flat_map, sum_by}
 use Rattle.std.proofs.lemmas.List.{append_assoc, drop-drop, drop_at, take_at}
@@ -18,9 +18,9 @@ stands_left file at a b stands = record { rest = b ++ stands.rest; is = stands.i
 
 pub stands_right : (file : List ℕ) (at n : ℕ) (a b : List ℕ) → length a ≡ n → Stands file at (a ++ b) → Stands file (at + n) b
 stands_right file at n a b size stands = record {
-    rest = stands.rest;
-    is = sym (drop-drop n at file) ∙ ap (drop n) (stands.is ∙ append_assoc a b stands.rest) ∙ drop_at a (b ++ stands.rest) n size;
-  }
+  rest = stands.rest;
+  is = sym (drop-drop n at file) ∙ ap (drop n) (stands.is ∙ append_assoc a b stands.rest) ∙ drop_at a (b ++ stands.rest) n size;
+}
 
 pub take_there : (file : List ℕ) (at n : ℕ) (bytes : List ℕ) → length bytes ≡ n → Stands file at bytes → take n (drop at file) ≡ bytes
 take_there file at n bytes size stands = ap (take n) stands.is ∙ take_at bytes stands.rest n size

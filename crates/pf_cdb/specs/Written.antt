@@ -1,6 +1,6 @@
 -- The bytes of the file that is written for some pairs (D. J. Bernstein, A structure for constant databases; cdb(5)). The order of the records,
 -- the size of a table, where an empty table would stand and the greatest size follow the tool cdb of tinycdb; the last is postgate's own.
-use Rattle.std.specs.Prelude.{ℕ, ◌+◌, ◌*◌, ◌/◌, ◌%◌, ◌<◌, ◌==◌, ◌≢◌, Bool, nat_lt, List, [], ◌∷◌, ◌++◌, length, map, replicate, slice_set, AllPairs, flat_map, filter, fold, sum_by, Result, Ok, Err, if◌then◌else◌}
+use Rattle.std.specs.Prelude.{ℕ, ◌+◌, ◌*◌, ◌/◌, ◌%◌, ◌==◌, ◌≢◌, Bool, nat_lt, List, [], ◌∷◌, ◌++◌, length, map, replicate, slice_set, AllPairs, flat_map, filter, fold, sum_by, Result, Ok, Err, if◌then◌else◌}
 use Rattle.std.specs.Int.{to_le_bytes, w32}
 use Rattle.std.specs.List.{prefix_len, range_with_len}
 use Rattle.pf_base.specs.declared.pair.Pair.{Pair}

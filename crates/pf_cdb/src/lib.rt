@@ -18,4 +18,4 @@ pub use hashing::hash;
 pub use listing::elements;
 pub use search::find;
 pub use span::Span;
-pub use writing::WriteFault;
+pub use writing::{WriteFault, write};

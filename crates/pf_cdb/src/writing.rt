@@ -1,10 +1,7 @@
 //! Files that are written.
 ghost use Rattle.std.specs.Prelude.{◌≡◌, ◌+◌, ◌*◌, ◌<◌, ◌≤◌, ◌++◌, [], length, map, OnOk, OnErr, IfOk, IfSome, IfNone, Err, flat_map, replicate, sum_by};
 ghost use Rattle.pf_base.specs.Unless.{Unless};
-ghost use Rattle.pf_cdb.specs.Damaged.{first_damage};
 ghost use Rattle.pf_cdb.specs.Gathered.{slot_lists, with_slot};
-ghost use Rattle.pf_cdb.specs.Held.{elements_of};
-ghost use Rattle.pf_cdb.specs.Sound.{IsSound};
 ghost use Rattle.pf_cdb.specs.Written as spec;
 
 use crate::hashing::hash;
@@ -103,7 +100,13 @@ fn sort_slots(alloc: Global, entries: &[Pair]) -> Result<Sorted, WriteFault>
             return Err(WriteFault::TooLarge);
         };
         let hash = hash(pair.key.as_slice());
-        add_slot(&mut buckets, Slot { hash, at: at as u32 })?;
+        add_slot(
+            &mut buckets,
+            Slot {
+                hash,
+                at: at as u32,
+            },
+        )?;
         at = end;
     }
     Ok(Sorted { buckets, end: at })
@@ -203,4 +206,12 @@ fn file_of(alloc: Global, entries: &[Pair]) -> Result<Bytes, WriteFault>
     add_records(&mut file, entries)?;
     add_tables(&mut file, tables.as_slice())?;
     Ok(file)
+}
+
+/// The bytes of the cdb file for the entries, in their order (cdb(5)). `TooLarge` comes only where the file would have more
+/// than `FILE_LIMIT` bytes, and no larger file is answered.
+pub fn write(alloc: Global, entries: &List<Pair>) -> Result<Bytes, WriteFault>
+    ensures file { Unless result WriteFault.NoMemory (λ r. r ≡ spec.written_file entries.now) }
+{
+    file_of(alloc, entries.as_slice())
 }

@@ -9,7 +9,7 @@ use Rattle.pf_cdb.proofs.placing.fill.Goals as goal
 pub place-requires : goal.place-requires
 place-requires c =
     subst (λ l. count_by is_used l < length l) (sym (c.as_mut_slice.ensures.value ∙ c.loop-slot.invariant))
-      (has_room c.args.placed.now c.loop-slot.slot-index c.loop-slot-test.true)
+    (has_room c.args.placed.now c.loop-slot.slot-index c.loop-slot-test.true)
 
 pub returns : goal.returns
 unfolding filled

@@ -5,6 +5,6 @@ use Rattle.pf_cdb.proofs.placing.place.Given as goal
 
 abbrev pub invariant-loop-step : goal.invariant-loop-step
 invariant-loop-step l = record {
-    same : l.slots ≡ l.fn.slots;
-    used : (k : ℕ) → k < l.step → is_used (step_slot l.fn.slots l.slot.hash k) ≡ true;
-  }
+  same : l.slots ≡ l.fn.slots;
+  used : (k : ℕ) → k < l.step → is_used (step_slot l.fn.slots l.slot.hash k) ≡ true;
+}

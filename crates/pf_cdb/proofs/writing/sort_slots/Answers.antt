@@ -27,8 +27,8 @@ loop-pair-preserved c =
     let low : i < length entries = c.loop-pair-test.true in
     let size = ap record_size c.pair-item.is in
     let is : slot ≡ record { hash = hash_of pair.key; at = 2048 + sum_by record_size (take i entries) } =
-      ap (λ h. record { hash = h; at = c.loop-pair.at }) (c.hash-hash.ensures ∙ ap hash_of c.as_slice.ensures)
-      ∙ ap (λ n. record { hash = hash_of pair.key; at = n }) c.loop-pair.invariant.at_is in
+    ap (λ h. record { hash = h; at = c.loop-pair.at }) (c.hash-hash.ensures ∙ ap hash_of c.as_slice.ensures)
+    ∙ ap (λ n. record { hash = hash_of pair.key; at = n }) c.loop-pair.invariant.at_is in
     record {
       at_is = omega (arith, c.in-Some.ensures.some, sum_by_more record_size entries i pair low, size, c.loop-pair.invariant.at_is);
       low = c.in-Some.ensures.some.1;

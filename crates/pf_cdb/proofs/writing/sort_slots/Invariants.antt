@@ -6,7 +6,7 @@ use Rattle.pf_cdb.proofs.writing.sort_slots.Given as goal
 
 abbrev pub invariant-loop-pair : goal.invariant-loop-pair
 invariant-loop-pair l = record {
-    at_is : l.at ≡ 2048 + sum_by record_size (take l.pair-index l.entries);
-    low : l.at ≤ 67108864;
-    slots : slot_lists l.buckets.items ≡ by_table (placed 2048 (take l.pair-index l.entries));
-  }
+  at_is : l.at ≡ 2048 + sum_by record_size (take l.pair-index l.entries);
+  low : l.at ≤ 67108864;
+  slots : slot_lists l.buckets.items ≡ by_table (placed 2048 (take l.pair-index l.entries));
+}
