@@ -27,12 +27,12 @@ pub fn file_of(
         let (place, count) = if table < 37 {
             (at, 0)
         } else if table == 37 {
-            (at, slots.len() as u8)
+            (at, end.saturating_sub(at) / 8)
         } else {
             (end, 0)
         };
         file.extend(&place.to_le_bytes())?;
-        file.extend(&[count, 0, 0, 0])?;
+        file.extend(&count.to_le_bytes())?;
     }
     file.extend(records)?;
     for (hash, place) in slots {
