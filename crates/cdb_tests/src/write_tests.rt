@@ -1,0 +1,42 @@
+use crate::files::three_pairs;
+use pf_base::{Bytes, List, NoMemory, Pair};
+use pf_cdb::write;
+use std::alloc::Global;
+use std::test::Fail;
+
+fn pairs(alloc: Global, items: &[(&str, &str)]) -> Result<List<Pair>, NoMemory> {
+    let mut pairs = List::new(alloc);
+    for (key, value) in items {
+        pairs.push(Pair {
+            key: Bytes::from_slice(alloc, key.as_bytes())?,
+            value: Bytes::from_slice(alloc, value.as_bytes())?,
+        })?;
+    }
+    Ok(pairs)
+}
+
+#[test]
+fn three_pairs_are_written(rt: HostRuntime) -> Result<(), Fail> {
+    let alloc = rt.alloc();
+    let entries = pairs(alloc, &[("aa", "1"), ("ii", "2"), ("qq", "3")])?;
+    match write(alloc, &entries) {
+        Ok(file) => assert_eq!(rt; file, three_pairs(alloc)?),
+        Err(_) => assert!(rt; false, "the file is written"),
+    }
+    Ok(())
+}
+
+#[test]
+fn no_pair_is_written_as_a_header(rt: HostRuntime) -> Result<(), Fail> {
+    let alloc = rt.alloc();
+    match write(alloc, &List::new(alloc)) {
+        Ok(file) => {
+            assert_eq!(rt; file.len(), 2048);
+            for (i, b) in file.as_slice().iter().enumerate() {
+                assert_eq!(rt; *b, if i % 8 == 1 { 8 } else { 0 });
+            }
+        }
+        Err(_) => assert!(rt; false, "the file is written"),
+    }
+    Ok(())
+}

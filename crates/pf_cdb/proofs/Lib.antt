@@ -1,0 +1,15 @@
+pub mod BucketLaws
+pub mod DamageLaws
+pub mod FileLaws
+pub mod FirstLemmas
+pub mod HeldLaws
+pub mod ListLaws
+pub mod OutcomeLaws
+pub mod PairLaws
+pub mod PlaceLaws
+pub mod RangeLaws
+pub mod ReachLaws
+pub mod Rows
+pub mod SearchLaws
+pub mod StandsLaws
+pub mod WordLemmas

@@ -1,0 +1,17 @@
+-- What a writer answers: the file, or that it would be too large.
+use Rattle.std.proofs.Common.{◌≡◌, ◌<◌, ◌≤◌, List, ℕ, Result, Ok, Err, cond, length, refl, ap, ◌∙◌, sym, subst}
+use Rattle.std.specs.Prelude.{IfOk}
+use Rattle.std.proofs.lemmas.Bool.{le-ltb, lt-ltb}
+use Rattle.pf_base.specs.Unless.{Unless}
+use Rattle.pf_base.specs.declared.pair.Pair.{Pair}
+use Rattle.pf_cdb.specs.Written.{written, written_file}
+use Rattle.pf_cdb.specs.declared.writing.WriteFault.{WriteFault}
+use Rattle.pf_cdb.specs.declared.writing.WriteFault.TheVariants.{NoMemory, TooLarge}
+
+pub unless_written : (entries : List Pair) (r : Result (List ℕ) WriteFault) → IfOk r (λ file. file ≡ written entries) → IfOk r (λ file. length file ≤ 67108864)
+    → (r ≡ Err TooLarge → 67108864 < length (written entries)) → Unless r NoMemory (λ answer. answer ≡ written_file entries)
+unless_written entries (Ok file) is fits large =
+    ap Ok is ∙ sym (ap (λ b. cond b (Err TooLarge) (Ok (written entries))) (le-ltb 67108864 (length (written entries)) (subst (λ l. length l ≤ 67108864) is fits)))
+unless_written entries (Err TooLarge) is fits large =
+    λ _. sym (ap (λ b. cond b (Err TooLarge) (Ok (written entries))) (lt-ltb 67108864 (length (written entries)) (large refl)))
+unless_written entries (Err NoMemory) is fits large = λ other. absurd (other refl)

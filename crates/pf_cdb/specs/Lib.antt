@@ -1,0 +1,9 @@
+pub mod Damaged
+pub mod Gathered
+pub mod Hash
+pub mod Held
+pub mod Layout
+pub mod Listed
+pub mod Readable
+pub mod Sound
+pub mod Written

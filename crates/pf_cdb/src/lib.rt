@@ -1,0 +1,21 @@
+//! cdb files: how one is written, whether one is damaged, and what it holds
+//! (D. J. Bernstein, A structure for constant databases; cdb(5)).
+#![tactic(auto)]
+
+mod checking;
+mod damage;
+mod hashing;
+mod layout;
+mod listing;
+mod placing;
+mod search;
+mod span;
+mod writing;
+
+pub use checking::check;
+pub use damage::Damage;
+pub use hashing::hash;
+pub use listing::elements;
+pub use search::find;
+pub use span::Span;
+pub use writing::{WriteFault, write};
