@@ -5,9 +5,11 @@ usage: bench/run-cases.py [--program PATH] [FILE..]    (crates/postgate/out/post
 
 Each run has a folder of its own. Reads of N bytes are packets of a pipe. A read fails from a folder as standard input, a
 write to a full device, a call of the files where main.cf is a folder or no file may grow. What only memory can do is skipped
-and counted. It prints a line a file, a line for each difference and the counts, and ends with 1 where one differs.
+and counted. It prints a line a file, behind it a line for each difference, and last the counts. It ends with 1 where a run
+differs or can not be made, and with 2 where the program or a case file can not be had, or memory is wanting.
 """
 import argparse
+import errno
 import fcntl
 import os
 import re
@@ -18,16 +20,20 @@ import tempfile
 import threading
 from collections import Counter
 from concurrent.futures import ThreadPoolExecutor
+from contextlib import contextmanager, suppress
+from itertools import takewhile
 from pathlib import Path
 from types import SimpleNamespace
 
 ROOT = Path(__file__).resolve().parent.parent
+CASES = ROOT / "crates/cases/data"
 SHARED, OWN = "shared", "own"
 SIZES = (0, 1, 7)                      # the reads of a case that names none; 0 sets no limit
 GREATEST = 4_294_967_296
 PIPE_SIZE = 1 << 20
 SECONDS = 120
 SHOWN = 2000
+NOT_TAKEN = (errno.E2BIG, errno.EEXIST, errno.EINVAL, errno.EISDIR, errno.ENAMETOOLONG, errno.ENOTDIR)
 READ_FAILS, OUTPUT_FAILS = "the Nth read fails", "the Nth write of the output fails"
 RECORD_FAILS, LOG_FAILS = "the Nth write of the record fails", "the Nth write of the log fails"
 FILES_FAIL = "the Nth call of the files fails"
@@ -39,6 +45,8 @@ STATEMENTS = {text: re.compile(text.replace("Nth", ORDINAL).replace("N", "([0-9]
     "N bytes are left unread", "the client ends its lines with LF", "each call fails in turn", "there are N reads",
     "there are N writes of the output", "there are N writes of the record", "there are N writes of the log",
     "there are N calls of the files", "in memory only")}
+COMMAND = re.compile(rb"\$ postgate(?:[ \t](.*))?", re.S)
+REFUSED = b"refused: "
 TITLES = (b"session", b"input", b"output", b"log", b"record")
 ESCAPE = re.compile(rb"\\(?:(?P<letter>[nrts\\])|x(?P<hex>[0-9A-Fa-f]{2})|\{(?P<byte>[^}]) x (?P<times>[0-9]+)\}"
                     rb"|(?P<cut>c\Z)|)", re.S)
@@ -54,13 +62,26 @@ class Skipped(Exception):
 
 
 def between(line, front, end):
-    if line.startswith(front) and line[len(front):].endswith(end):
-        return line[len(front):-len(end)].strip(b" \t")
-    return None
+    """What stands between two marks; blanks, tabs and a CR behind the second do not count."""
+    inner = line.removeprefix(front).rstrip(b" \t\r")
+    return inner.removesuffix(end).strip(b" \t") if line.startswith(front) and inner.endswith(end) else None
+
+
+def is_title(line):
+    return between(line, b"-- ", b" --") is not None
 
 
 def is_silent(line):
     return not line.strip(b" \t") or line.startswith(b"#")
+
+
+def is_utf8(text):
+    return text == text.decode(errors="ignore").encode()
+
+
+def number_of(digits):
+    """The number that digits write; of one that is far too great the front."""
+    return int(digits.lstrip(b"0")[:len(str(GREATEST)) + 1] or b"0")
 
 
 def read_escape(match):
@@ -68,8 +89,8 @@ def read_escape(match):
         return LETTERS[match["letter"]]
     if match["hex"]:
         return bytes.fromhex(match["hex"].decode())
-    if match["byte"] and int(match["times"]) <= GREATEST:
-        return match["byte"] * int(match["times"])
+    if match["byte"] and number_of(match["times"]) <= GREATEST:
+        return match["byte"] * number_of(match["times"])
     if match["cut"]:
         return b""
     raise Refused("bad escape")
@@ -85,13 +106,13 @@ def ended(line, has_escapes, end):
 
 def words_of(line):
     """The words of a command line behind its prompt."""
-    if line.count(b"'") % 2:
-        raise Refused("open quote")
-    words = [word.replace(b"'", b"") for word in re.findall(rb"(?:[^ ']|'[^']*')+", line)]
-    try:
-        b"".join(words).decode()
-    except UnicodeDecodeError:
-        raise Refused("no such statement") from None
+    words = []
+    for word in re.findall(rb"(?:[^ \t']|'[^']*(?:'|\Z))+", line):
+        if word.count(b"'") % 2:
+            raise Refused("open quote")
+        words.append(word.replace(b"'", b""))
+        if not is_utf8(words[-1]):
+            raise Refused("no such statement")
     return words
 
 
@@ -104,14 +125,20 @@ class Plan:
         self.numbers, self.texts, self.layers = {}, {}, {}
 
     def say(self, line, layer):
+        """Takes a statement, and gives its kind."""
+        if line.startswith(REFUSED):
+            return REFUSED
+        if command := COMMAND.fullmatch(line):
+            self.words = words_of(command[1] or b"")
+            return COMMAND
         for statement, pattern in STATEMENTS.items():
             match = pattern.fullmatch(line)
-            number = int(match[1].rstrip(b"stndrh")) if match and pattern.groups else 0
+            number = number_of(match[1].rstrip(b"stndrh")) if match and pattern.groups else 0
             if match and number <= GREATEST:
                 if self.layers.get(statement) != layer:
                     self.layers[statement], self.numbers[statement] = layer, []
                 self.numbers[statement].append(number)
-                return
+                return statement
         raise Refused("no such statement")
 
     def says(self, statement):
@@ -148,7 +175,8 @@ class Section:
         self.title = title.removesuffix(b", with escapes")
         self.has_escapes = self.title != title
         self.empty_lines, self.speakers = 0, set()
-        if self.title not in TITLES and not re.search(rb"[./]", self.title.removesuffix(b" afterwards")):
+        name = self.title.removesuffix(b" afterwards")
+        if self.title not in TITLES and not (re.search(rb"[./]", name) and is_utf8(name)):
             raise Refused("no such section")
         plan.begin(self.title, layer)
         if self.title == b"session":
@@ -176,28 +204,45 @@ class Section:
 
 
 def read_part(plan, layer, text):
-    section = None
+    section, said = None, set()
     for line in text.split(b"\n"):
         title = between(line, b"-- ", b" --")
         if title is not None:
             section = Section(plan, layer, title)
         elif section:
             section.take(line)
-        elif line == b"$ postgate" or line.startswith(b"$ postgate "):
-            plan.words = words_of(line.removeprefix(b"$ postgate"))
-        elif not is_silent(line) and not line.startswith(b"refused: "):
-            plan.say(line, layer)
+        elif not is_silent(line):
+            kind = plan.say(line, layer)
+            if kind in said:
+                raise Refused("two statements of one kind")
+            said.update({kind} - STATUS_OF.keys())
+
+
+def read_plan(shared, own):
+    """What a case, or one row of it, says, from its two texts."""
+    plan = Plan(any(b"the client ends its lines with LF" in part.split(b"\n") for part in (shared, own)))
+    read_part(plan, SHARED, shared)
+    read_part(plan, OWN, own)
+    if plan.words is None:
+        raise Refused("no command")
+    return plan
+
+
+def wanted_refusal(*parts):
+    """The words with which the reader has to refuse, from the statements of the first part that has them."""
+    lines = [line for part in parts for line in takewhile(lambda line: not is_title(line), part.split(b"\n"))]
+    return next((line.removeprefix(REFUSED) for line in lines if line.startswith(REFUSED)), b"")
 
 
 def filled(text, cells):
     """A text with the cells of a row in their places; a line that holds nothing but empty cells goes away."""
-    lines = []
+    names = [re.escape(name) for name in cells if name and b"}" not in name]
+    if not names:
+        return text
+    place, lines = re.compile(rb"\{(" + b"|".join(names) + rb")\}"), []
     for line in text.split(b"\n"):
-        parts = re.split(rb"\{([^{}]*)\}", line)
-        has_cells = any(name in cells for name in parts[1::2])
-        parts[1::2] = [cells.get(name, b"{" + name + b"}") for name in parts[1::2]]
-        if any(parts) or not has_cells:
-            lines.append(b"".join(parts))
+        line, times = place.subn(lambda match: cells[match[1]], line)
+        lines += [line] if line or not times else []
     return b"\n".join(lines)
 
 
@@ -207,32 +252,15 @@ class Case:
     def __init__(self, name):
         self.name, self.own, self.tables = name, [], []
 
-    def refusal(self):
-        return next((line[9:].decode(errors="replace") for line in self.own if line.startswith(b"refused: ")), "")
-
     def rows(self):
-        """The cells of each row by their columns."""
-        if len(self.tables) > 1:
-            raise Refused("two sections of one title")
-        columns, *lines = [[cell.strip(b" \t") for cell in line.split(b"|")] for line in self.tables[0]] or [[]]
-        if not lines:
-            raise Refused("no rows")
-        for line in lines:
-            if len(line) != len(columns):
-                raise Refused("another number of cells")
-            yield {column: cell for column, cell in zip(columns, line) if column}
-
-    def plans(self, shared):
-        if not self.name:
-            raise Refused("case without a name")
-        for cells in self.rows() if self.tables else [{}]:
-            parts = filled(shared, cells), filled(b"\n".join(self.own), cells)
-            plan = Plan(any(b"the client ends its lines with LF" in part.split(b"\n") for part in parts))
-            for layer, part in zip((SHARED, OWN), parts):
-                read_part(plan, layer, part)
-            if plan.words is None:
-                raise Refused("no command")
-            yield plan
+        """The place of each row, its cells, and why it is refused, if it is; a case without rows is one without cells."""
+        columns, *lines = [[cell.strip(b" \t") for cell in line.split(b"|")] for line in sum(self.tables, [])] or [[]]
+        if not self.name or len(self.tables) > 1 or not lines:
+            refusal = "two sections of one title" if len(self.tables) > 1 else "no rows" if self.tables else ""
+            return [("", {}, refusal if self.name else "case without a name")]
+        refusal = "two columns of one name" if len({*columns}) < len(columns) else ""
+        return [(f"row {number}: ", {} if refusal or len(line) != len(columns) else dict(zip(columns, line)),
+                 refusal or "another number of cells" * (len(line) != len(columns))) for number, line in enumerate(lines, 1)]
 
 
 def read_file(path):
@@ -270,13 +298,20 @@ def sink_names(plan):
     return option(plan.words, b"m"), option(plan.words, b"l")
 
 
-def faults(plan):
-    """The objects whose calls fail, each by a device; a number of 0 asks for none."""
-    found, names = {}, [*plan.files()[0], *(name for name in sink_names(plan) if name)]
+def check_names(plan):
+    """Skips a plan that means another thing with real files than it does in memory."""
+    names = [*plan.files()[1], *(name for name in sink_names(plan) if name is not None)]
     if plan.says("in memory only"):
         raise Skipped("in memory only")
     if any(name.startswith(b"/") or b".." in name.split(b"/") for name in names):
         raise Skipped("a file outside of the case's folder")
+    if len({os.path.normpath(name) for name in names}) < len(names):
+        raise Skipped("a file with two names, or a sink that is another file of the case")
+
+
+def faults(plan):
+    """The objects whose calls fail, each by a device; a number of 0 asks for none."""
+    found = {}
     for statement in STATUS_OF:
         numbers = [number for number in plan.numbers.get(statement, []) if number]
         calls = range(1, REPLACE_CALL + (b"-e" in plan.words)) if statement == FILES_FAIL else [1]
@@ -290,21 +325,41 @@ def is_unreadable(failing):
     return 0 < failing.get(FILES_FAIL, 0) < REPLACE_CALL
 
 
+@contextmanager
+def taken():
+    """Skips a plan where the system does not take one of its words or names."""
+    try:
+        yield
+    except (OSError, ValueError) as error:
+        if getattr(error, "errno", errno.EINVAL) not in NOT_TAKEN:
+            raise
+        raise Skipped("a word or a name that the system can not take") from error
+
+
+def write_new(room, name, text):
+    path = os.path.join(os.fsencode(room), name)
+    os.makedirs(os.path.dirname(path), exist_ok=True)
+    with open(path, "xb") as file:
+        file.write(text)
+    return Path(os.fsdecode(path))
+
+
 def place_files(room, plan, failing):
     for name, text in plan.files()[0].items():
-        path = room / os.fsdecode(name)
-        path.parent.mkdir(parents=True, exist_ok=True)
+        path = write_new(room, name, text)
         if is_unreadable(failing) and path.name == "main.cf":
+            path.unlink()
             path.mkdir()
-        else:
-            path.write_bytes(text)
-    for name, statement in zip(sink_names(plan), (RECORD_FAILS, LOG_FAILS)):
-        if name and statement in failing:
-            (room / os.fsdecode(name)).symlink_to("/dev/full")
+    for name, title, statement in zip(sink_names(plan), (b"record", b"log"), (RECORD_FAILS, LOG_FAILS)):
+        if name is not None and (plan.texts.get(title) or statement in failing):
+            path = write_new(room, name, b"")
+            path.unlink()
+            if statement in failing:
+                path.symlink_to("/dev/full")
 
 
 def feed(end, text, most):
-    with open(end, "wb", buffering=0) as pipe:
+    with suppress(BrokenPipeError), open(end, "wb", buffering=0) as pipe:
         for at in range(0, len(text), most or PIPE_SIZE):
             pipe.write(text[at:at + (most or PIPE_SIZE)])
 
@@ -324,27 +379,30 @@ def open_input(plan, most, failing, room):
 
 def run(program, plan, most, failing):
     """What the words of a plan leave in a folder of their own, in reads of at most so many bytes, while these calls fail."""
-    record, log = sink_names(plan)
+    record, log = (name and os.path.normpath(name) for name in sink_names(plan))
     command = [os.fsencode(program), *plan.words]
     if failing.get(FILES_FAIL) == REPLACE_CALL:
         command = ["sh", "-c", 'ulimit -f 0; trap "" XFSZ; exec "$@"', "sh", *command]
     with tempfile.TemporaryDirectory(prefix="case-") as folder, open("/dev/full", "wb") as full:
         room = Path(folder)
-        place_files(room, plan, failing)
+        with taken():
+            place_files(room, plan, failing)
         source, is_pipe = open_input(plan, most, failing, room)
-        process = subprocess.Popen(
-            command, cwd=room, stdin=source, stdout=full if OUTPUT_FAILS in failing else subprocess.PIPE,
-            stderr=full if LOG_FAILS in failing and log is None else subprocess.PIPE)
+        output, errors = (full if statement in failing else subprocess.PIPE for statement in (OUTPUT_FAILS, LOG_FAILS))
         try:
-            texts = process.communicate(timeout=SECONDS)
-        except subprocess.TimeoutExpired:
-            process.kill()
-            texts = process.communicate()
-        output, errors = (text or b"" for text in texts)
-        unread = sum(map(len, iter(lambda: os.read(source, PIPE_SIZE), b""))) if is_pipe else 0
-        os.close(source)
+            with taken():
+                process = subprocess.Popen(command, cwd=room, stdin=source, stdout=output, stderr=errors)
+            try:
+                texts = process.communicate(timeout=SECONDS)
+            except subprocess.TimeoutExpired:
+                process.kill()
+                texts = process.communicate()
+            unread = sum(map(len, iter(lambda: os.read(source, PIPE_SIZE), b""))) if is_pipe else 0
+        finally:
+            os.close(source)
         files = {os.fsencode(path.relative_to(room)): path.read_bytes()
                  for path in room.rglob("*") if path.is_file() and not path.is_symlink()}
+    output, errors = (text or b"" for text in texts)
     return SimpleNamespace(
         status=process.returncode, output=output, record=files.pop(record, b""), files=files, unread=unread,
         can_tell_unread=is_pipe and most < 2,    # a read of less than a packet loses the rest of it
@@ -370,46 +428,59 @@ def compared(plan, left, failing):
     return [pair for pair in pairs if pair[1] != pair[2]]
 
 
-def turn_differs(whole, left, statement):
-    """Whether a run in which the first call of an object fails is neither cut off nor, where it makes no such call, whole."""
-    if left.status != STATUS_OF[statement]:
-        return left.status != whole.status
-    is_told = statement == FILES_FAIL and re.fullmatch(rb"[^\n]*(?:read|replace) failed\n", left.log)
+def turn_compared(whole, left, statement):
+    """What differs where the first call of an object fails: the run is cut off or, where it makes no such call, whole."""
+    if left.status not in (whole.status, *{STATUS_OF[statement]}) or left.status == whole.status:
+        return [(what, getattr(whole, what), getattr(left, what)) for what in ("status", "output", "log", "record")
+                if getattr(whole, what) != getattr(left, what)]
+    is_told = statement == FILES_FAIL and re.fullmatch(rb"[^\n]*: (?:read|replace) failed\n", left.log)
     is_front = whole.output.startswith(left.output) and whole.record.startswith(left.record)
-    return not (is_front and (is_told or statement != FILES_FAIL and whole.log.startswith(left.log)))
+    has_log = is_told or statement != FILES_FAIL and whole.log.startswith(left.log)
+    return [] if is_front and has_log else [("texts", b"prefixes", left.log)]
 
 
-def shown(seen):
-    return repr(seen[:SHOWN])[1:] if isinstance(seen, bytes) else repr(seen)
+def difference(what, wanted, came):
+    """The line of a difference. Texts that are alike for long are shown from the first byte that differs."""
+    are_texts = isinstance(wanted, bytes) and isinstance(came, bytes)
+    place = len(os.path.commonprefix([wanted, came])) if are_texts else 0
+    cut = slice(place, place + SHOWN) if place >= SHOWN else slice(SHOWN)
+    wanted, came = (repr(b".." * bool(cut.start) + seen[cut])[1:] if isinstance(seen, bytes) else seen for seen in (wanted, came))
+    return f"{what}: wanted {wanted}, came {came}"
 
 
-def judged(program, plan):
-    """The differences of a plan, how many runs it took, and why it was skipped, if it was."""
+def judge_plan(program, plan, answer):
+    """Runs a plan, and adds its differences and the number of runs to the answer."""
+    check_names(plan)
+    failing, most = faults(plan), plan.number("reads of N bytes")
+    for size in [most] if plan.says("reads of N bytes") else SIZES:
+        left = run(program, plan, size, failing)
+        answer.runs += 1
+        answer.lines += [f"in reads of {size}: " * (size > 0) + difference(*pair) for pair in compared(plan, left, failing)]
+    if plan.says("each call fails in turn"):
+        whole = run(program, plan, most, {})
+        for statement in STATUS_OF:
+            pairs = turn_compared(whole, run(program, plan, most, {statement: 1}), statement)
+            answer.runs += 1
+            answer.lines += [f"where {statement.replace('Nth', '1st')}: " + difference(*pair) for pair in pairs]
+
+
+def judge_row(program, shared, own, cells, refusal):
+    """The differences of a case, or of one row of it, how many runs it took, and why it was skipped, if it was."""
+    answer, parts = SimpleNamespace(lines=[], runs=0, skipped=""), (filled(shared, cells), filled(own, cells))
     try:
-        failing, lines, runs = faults(plan), [], 0
-    except Skipped as reason:
-        return [], 0, str(reason)
-    for most in [plan.number("reads of N bytes")] if plan.says("reads of N bytes") else SIZES:
-        left, runs = run(program, plan, most, failing), runs + 1
-        lines += [f"{f'in reads of {most}: ' if most else ''}{what}: wanted {shown(wanted)}, came {shown(came)}"
-                  for what, wanted, came in compared(plan, left, failing)]
-    for statement in STATUS_OF if plan.says("each call fails in turn") else ():
-        turn, runs = run(program, plan, plan.number("reads of N bytes"), {statement: 1}), runs + 1
-        if turn_differs(left, turn, statement):
-            lines.append(f"{statement.replace('Nth', '1st')}: status {turn.status}, log {shown(turn.log)}")
-    return lines, runs, ""
-
-
-def start_case(case, shared, place, pool, program):
-    """The place of each row and its answer to come, and the line of a refusal that is not as wanted."""
-    plans, seen = [], ""
-    try:
-        plans.extend(case.plans(shared))
+        if refusal:
+            raise Refused(refusal)
+        judge_plan(program, read_plan(*parts), answer)
     except Refused as words:
-        seen = str(words)
-    lines = [] if case.refusal() == seen else [f"{place}refusal: wanted '{case.refusal()}', came '{seen}'"]
-    places = [f"{place}row {number}: " if case.tables else place for number in range(1, len(plans) + 1)]
-    return [(place, pool.submit(judged, program, plan)) for place, plan in zip(places, plans)], lines
+        refusal = str(words)
+    except Skipped as reason:
+        answer.skipped = str(reason)
+    except (OSError, ValueError) as error:
+        answer.lines.append(f"could not be run: {error}")
+    wanted = wanted_refusal(*reversed(parts))
+    if wanted != refusal.encode():
+        answer.lines.append(difference("refusal", wanted, refusal.encode()))
+    return answer
 
 
 def judge_file(path, program, pool, counts, skipped):
@@ -419,15 +490,39 @@ def judge_file(path, program, pool, counts, skipped):
     if not cases or len({case.name for case in cases}) < len(cases):
         lines.append(f"{path.name}: cases: wanted of different names, came none, or two of one name")
     for case in cases:
-        coming, refused = start_case(case, shared, f"{path.name}: {case.name.decode(errors='replace')}: ", pool, program)
-        answers, lines, rows = answers + coming, lines + refused, rows + (len(coming) if case.tables else 0)
-    for place, answer in answers:
-        found, runs, reason = answer.result()
-        lines += [place + line for line in found]
-        counts["runs"] += runs
-        skipped.update([reason] if reason else [])
+        for row, *rest in case.rows():
+            place, rows = f"{path.name}: {case.name.decode(errors='replace')}: {row}", rows + bool(row)
+            answers.append((place, pool.submit(judge_row, program, shared, b"\n".join(case.own), *rest)))
+    for place, coming in answers:
+        answer = coming.result()
+        lines += [place + line for line in answer.lines]
+        counts["runs"] += answer.runs
+        skipped.update([answer.skipped] if answer.skipped else [])
     counts.update(cases=len(cases), rows=rows, differences=len(lines))
     print("\n".join([f"{path.name}: {len(cases)} cases, {rows} rows", *lines]), flush=True)
+
+
+def complain(text):
+    print(f"run-cases.py: {text}", file=sys.stderr)
+    return 2
+
+
+def judge_files(files, program):
+    """Runs the cases of all files, prints what differs and the counts, and gives the exit status."""
+    counts, skipped, status = Counter(), Counter(), 0
+    with ThreadPoolExecutor(2 * (os.cpu_count() or 1)) as pool:
+        for path in files:
+            try:
+                judge_file(path, program, pool, counts, skipped)
+            except OSError as error:
+                status = complain(f"{path}: {error.strerror}")
+            except MemoryError:
+                pool.shutdown(cancel_futures=True)
+                return complain(f"{path}: not enough memory")
+    for reason, times in sorted(skipped.items()):
+        print(f"skipped {times}: {reason}")
+    print(f"{counts['cases']} cases, {counts['rows']} rows, {counts['runs']} runs, {counts['differences']} differ")
+    return status or min(counts["differences"], 1)
 
 
 def main():
@@ -435,16 +530,11 @@ def main():
     parser.add_argument("--program", type=Path, default=ROOT / "crates/postgate/out/postgate")
     parser.add_argument("files", nargs="*", type=Path, metavar="FILE")
     asked = parser.parse_args()
-    if not shutil.which(asked.program):
-        parser.error(f"no program {asked.program}: bench/run-example.sh builds it")
-    counts, skipped = Counter(), Counter()
-    with ThreadPoolExecutor(2 * (os.cpu_count() or 1)) as pool:
-        for path in asked.files or sorted((ROOT / "crates/cases/data").glob("*.case")):
-            judge_file(path, asked.program.resolve(), pool, counts, skipped)
-    for reason, times in sorted(skipped.items()):
-        print(f"skipped {times}: {reason}")
-    print(f"{counts['cases']} cases, {counts['rows']} rows, {counts['runs']} runs, {counts['differences']} differ")
-    return 1 if counts["differences"] else 0
+    sys.stdout.reconfigure(errors="backslashreplace")
+    files = asked.files or sorted(CASES.glob("*.case"))
+    if not (asked.program.is_file() and os.access(asked.program, os.X_OK)):
+        return complain(f"no program {asked.program}: scripts/build.py builds it")
+    return judge_files(files, asked.program.resolve()) if files else complain(f"no case file in {CASES}")
 
 
 if __name__ == "__main__":
