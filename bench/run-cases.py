@@ -1,6 +1,5 @@
 #!/usr/bin/env python3
 """Runs case files on the built program, with real files, pipes and devices. docs/CASES.md is the reference of their format.
-
 usage: bench/run-cases.py [--program PATH] [FILE..]    (crates/postgate/out/postgate and all of crates/cases/data)
 
 Each run has a folder of its own. Reads of N bytes are packets of a pipe. A read fails from a folder as standard input, a
@@ -13,41 +12,39 @@ import errno
 import fcntl
 import os
 import re
-import shutil
 import subprocess
 import sys
 import tempfile
 import threading
 from collections import Counter
 from concurrent.futures import ThreadPoolExecutor
-from contextlib import contextmanager, suppress
-from itertools import takewhile
+from contextlib import suppress
+from itertools import chain, takewhile
 from pathlib import Path
 from types import SimpleNamespace
 
 ROOT = Path(__file__).resolve().parent.parent
 CASES = ROOT / "crates/cases/data"
-SHARED, OWN = "shared", "own"
 SIZES = (0, 1, 7)                      # the reads of a case that names none; 0 sets no limit
 GREATEST = 4_294_967_296
-PIPE_SIZE = 1 << 20
-SECONDS = 120
-SHOWN = 2000
-NOT_TAKEN = (errno.E2BIG, errno.EEXIST, errno.EINVAL, errno.EISDIR, errno.ENAMETOOLONG, errno.ENOTDIR)
+PIPE_SIZE, SECONDS, SHOWN = 1 << 20, 120, 2000
+NOT_TAKEN = "a word or a name that the system can not take"
+NOT_TAKEN_ERRORS = (errno.E2BIG, errno.EEXIST, errno.EINVAL, errno.EISDIR, errno.ENAMETOOLONG, errno.ENOTDIR)
 READ_FAILS, OUTPUT_FAILS = "the Nth read fails", "the Nth write of the output fails"
 RECORD_FAILS, LOG_FAILS = "the Nth write of the record fails", "the Nth write of the log fails"
 FILES_FAIL = "the Nth call of the files fails"
 STATUS_OF = {READ_FAILS: 4, OUTPUT_FAILS: 5, RECORD_FAILS: 6, LOG_FAILS: 7, FILES_FAIL: 8}
-REPLACE_CALL = 3                       # a main.cf that one read takes is asked for its size and its text before it is replaced
+LOOKS, REPLACE_CALL = (1, 2), 3        # a main.cf that one read takes is asked for its size and its text, and then replaced
 ORDINAL = "([0-9]*(?:(?<!1)1st|(?<!1)2nd|(?<!1)3rd|1[123]th|[04-9]th))"
 STATEMENTS = {text: re.compile(text.replace("Nth", ORDINAL).replace("N", "([0-9]+)").encode()) for text in (
     "status N", "reads of N bytes", *STATUS_OF, "only the first N replies", "only the first N log lines",
     "N bytes are left unread", "the client ends its lines with LF", "each call fails in turn", "there are N reads",
-    "there are N writes of the output", "there are N writes of the record", "there are N writes of the log",
-    "there are N calls of the files", "in memory only")}
+    *(f"there are N {calls}" for calls in ("writes of the output", "writes of the record", "writes of the log",
+                                           "calls of the files")), "in memory only")}
 COMMAND = re.compile(rb"\$ postgate(?:[ \t](.*))?", re.S)
 REFUSED = b"refused: "
 TITLES = (b"session", b"input", b"output", b"log", b"record")
+AFTERWARDS = b" afterwards"
 ESCAPE = re.compile(rb"\\(?:(?P<letter>[nrts\\])|x(?P<hex>[0-9A-Fa-f]{2})|\{(?P<byte>[^}]) x (?P<times>[0-9]+)\}"
                     rb"|(?P<cut>c\Z)|)", re.S)
 LETTERS = {b"n": b"\n", b"r": b"\r", b"t": b"\t", b"s": b" ", b"\\": b"\\"}
@@ -67,16 +64,15 @@ def between(line, front, end):
     return inner.removesuffix(end).strip(b" \t") if line.startswith(front) and inner.endswith(end) else None
 
 
-def is_title(line):
-    return between(line, b"-- ", b" --") is not None
-
-
 def is_silent(line):
     return not line.strip(b" \t") or line.startswith(b"#")
 
 
-def is_utf8(text):
-    return text == text.decode(errors="ignore").encode()
+def decoded(text, refusal):
+    """The text, which is refused where it is no UTF-8."""
+    if text != text.decode(errors="ignore").encode():
+        raise Refused(refusal)
+    return text
 
 
 def number_of(digits):
@@ -85,14 +81,12 @@ def number_of(digits):
 
 
 def read_escape(match):
-    if match["letter"]:
-        return LETTERS[match["letter"]]
     if match["hex"]:
         return bytes.fromhex(match["hex"].decode())
     if match["byte"] and number_of(match["times"]) <= GREATEST:
         return match["byte"] * number_of(match["times"])
-    if match["cut"]:
-        return b""
+    if match["letter"] or match["cut"]:
+        return LETTERS.get(match["letter"], b"")
     raise Refused("bad escape")
 
 
@@ -100,8 +94,7 @@ def ended(line, has_escapes, end):
     """A line of a section with its end, unless it says that none follows."""
     if not has_escapes:
         return line + end
-    is_cut = any(match["cut"] for match in ESCAPE.finditer(line))
-    return ESCAPE.sub(read_escape, line) + (b"" if is_cut else end)
+    return ESCAPE.sub(read_escape, line) + (b"" if any(match["cut"] for match in ESCAPE.finditer(line)) else end)
 
 
 def words_of(line):
@@ -110,9 +103,7 @@ def words_of(line):
     for word in re.findall(rb"(?:[^ \t']|'[^']*(?:'|\Z))+", line):
         if word.count(b"'") % 2:
             raise Refused("open quote")
-        words.append(word.replace(b"'", b""))
-        if not is_utf8(words[-1]):
-            raise Refused("no such statement")
+        words.append(decoded(word.replace(b"'", b""), "no such statement"))
     return words
 
 
@@ -141,9 +132,6 @@ class Plan:
                 return statement
         raise Refused("no such statement")
 
-    def says(self, statement):
-        return statement in self.numbers
-
     def number(self, statement):
         return self.numbers.get(statement, [0])[-1]
 
@@ -154,16 +142,13 @@ class Plan:
 
     def give_way(self, title, layer):
         if self.layers.get(title) != layer:
-            self.layers.pop(title, None)
-            self.texts.pop(title, None)
+            self.layers[title], self.texts[title] = None, b""
 
     def files(self):
         """The names of the files and their texts, before the run and afterwards."""
-        before, after = {}, {}
-        for title, text in self.texts.items():
-            if title not in TITLES:
-                name = title.removesuffix(b" afterwards")
-                (before if name == title else after)[name] = text
+        files = {title: text for title, text in self.texts.items() if title not in TITLES}
+        before = {title: text for title, text in files.items() if not title.endswith(AFTERWARDS)}
+        after = {title.removesuffix(AFTERWARDS): text for title, text in files.items() if title not in before}
         return before, {**before, **after}
 
 
@@ -174,9 +159,9 @@ class Section:
         self.plan, self.layer = plan, layer
         self.title = title.removesuffix(b", with escapes")
         self.has_escapes = self.title != title
-        self.empty_lines, self.speakers = 0, set()
-        name = self.title.removesuffix(b" afterwards")
-        if self.title not in TITLES and not (re.search(rb"[./]", name) and is_utf8(name)):
+        self.empty_lines, self.spoken = 0, set()
+        name = decoded(self.title, "no such section").removesuffix(AFTERWARDS)
+        if self.title not in TITLES and not re.search(rb"[./]", name):
             raise Refused("no such section")
         plan.begin(self.title, layer)
         if self.title == b"session":
@@ -184,12 +169,11 @@ class Section:
             plan.give_way(b"output", layer)
 
     def take_spoken(self, line):
-        speaker = line[:2]
-        if speaker not in (b"C:", b"S:") or line[2:3] not in (b"", b" "):
+        if not re.match(rb"[CS]:(?: |\Z)", line):
             raise Refused("no line of a session")
-        title, end = (b"input", self.plan.client_end) if speaker == b"C:" else (b"output", b"\r\n")
-        if speaker not in self.speakers:
-            self.speakers.add(speaker)
+        title, end = (b"input", self.plan.client_end) if line[:1] == b"C" else (b"output", b"\r\n")
+        if title not in self.spoken:
+            self.spoken.add(title)
             self.plan.begin(title, self.layer)
         self.plan.texts[title] += ended(line[3:], self.has_escapes, end)
 
@@ -203,26 +187,20 @@ class Section:
             self.empty_lines = 0
 
 
-def read_part(plan, layer, text):
-    section, said = None, set()
-    for line in text.split(b"\n"):
-        title = between(line, b"-- ", b" --")
-        if title is not None:
-            section = Section(plan, layer, title)
-        elif section:
-            section.take(line)
-        elif not is_silent(line):
-            kind = plan.say(line, layer)
-            if kind in said:
-                raise Refused("two statements of one kind")
-            said.update({kind} - STATUS_OF.keys())
-
-
-def read_plan(shared, own):
-    """What a case, or one row of it, says, from its two texts."""
-    plan = Plan(any(b"the client ends its lines with LF" in part.split(b"\n") for part in (shared, own)))
-    read_part(plan, SHARED, shared)
-    read_part(plan, OWN, own)
+def read_plan(parts):
+    """What a case, or one row of it, says, from what its file shares and its own text."""
+    plan = Plan(any(b"the client ends its lines with LF" in part.split(b"\n") for part in parts))
+    for layer, part in enumerate(parts):
+        section, said = None, set()
+        for line in part.split(b"\n"):
+            if (title := between(line, b"-- ", b" --")) is not None:
+                section = Section(plan, layer, title)
+            elif section:
+                section.take(line)
+            elif not is_silent(line):
+                if (kind := plan.say(line, layer)) in said:
+                    raise Refused("two statements of one kind")
+                said.update({kind} - STATUS_OF.keys())
     if plan.words is None:
         raise Refused("no command")
     return plan
@@ -230,8 +208,8 @@ def read_plan(shared, own):
 
 def wanted_refusal(*parts):
     """The words with which the reader has to refuse, from the statements of the first part that has them."""
-    lines = [line for part in parts for line in takewhile(lambda line: not is_title(line), part.split(b"\n"))]
-    return next((line.removeprefix(REFUSED) for line in lines if line.startswith(REFUSED)), b"")
+    statements = (takewhile(lambda line: between(line, b"-- ", b" --") is None, part.split(b"\n")) for part in parts)
+    return next((line.removeprefix(REFUSED) for line in chain(*statements) if line.startswith(REFUSED)), b"")
 
 
 def filled(text, cells):
@@ -246,21 +224,17 @@ def filled(text, cells):
     return b"\n".join(lines)
 
 
-class Case:
-    """A case as it is written: the lines of its statements and sections, and of its tables."""
-
-    def __init__(self, name):
-        self.name, self.own, self.tables = name, [], []
-
-    def rows(self):
-        """The place of each row, its cells, and why it is refused, if it is; a case without rows is one without cells."""
-        columns, *lines = [[cell.strip(b" \t") for cell in line.split(b"|")] for line in sum(self.tables, [])] or [[]]
-        if not self.name or len(self.tables) > 1 or not lines:
-            refusal = "two sections of one title" if len(self.tables) > 1 else "no rows" if self.tables else ""
-            return [("", {}, refusal if self.name else "case without a name")]
-        refusal = "two columns of one name" if len({*columns}) < len(columns) else ""
-        return [(f"row {number}: ", {} if refusal or len(line) != len(columns) else dict(zip(columns, line)),
-                 refusal or "another number of cells" * (len(line) != len(columns))) for number, line in enumerate(lines, 1)]
+def rows_of(case):
+    """The place of each row, its cells, and why it is refused, if it is; a case without rows is one without cells."""
+    columns, *lines = [[cell.strip(b" \t") for cell in line.split(b"|")] for line in sum(case.tables, [])] or [[]]
+    if not case.name or len(case.tables) > 1 or not lines:
+        refusal = "two sections of one title" if len(case.tables) > 1 else "no rows" if case.tables else ""
+        return [("", {}, refusal if case.name else "case without a name")]
+    has_twins, rows = len({*columns}) < len(columns), []
+    for number, cells in enumerate(lines, 1):
+        refusal = "two columns of one name" if has_twins else "" if len(cells) == len(columns) else "another number of cells"
+        rows.append((f"row {number}: ", {} if refusal else dict(zip(columns, cells)), refusal))
+    return rows
 
 
 def read_file(path):
@@ -270,7 +244,7 @@ def read_file(path):
     for line in path.read_bytes().split(b"\n"):
         name, title = between(line, b"== ", b" =="), between(line, b"-- ", b" --")
         if name is not None:
-            cases.append(Case(name))
+            cases.append(SimpleNamespace(name=name, own=[], tables=[]))
             lines = cases[-1].own
         elif title == b"rows" and cases:
             lines = []
@@ -298,42 +272,24 @@ def sink_names(plan):
     return option(plan.words, b"m"), option(plan.words, b"l")
 
 
-def check_names(plan):
-    """Skips a plan that means another thing with real files than it does in memory."""
-    names = [*plan.files()[1], *(name for name in sink_names(plan) if name is not None)]
-    if plan.says("in memory only"):
+def faults(plan):
+    """The objects whose calls fail, each by a device; skips a plan which means another thing with real files than in memory."""
+    found, names = {}, [*plan.files()[1], *(name for name in sink_names(plan) if name is not None)]
+    if "in memory only" in plan.numbers:
         raise Skipped("in memory only")
     if any(name.startswith(b"/") or b".." in name.split(b"/") for name in names):
         raise Skipped("a file outside of the case's folder")
     if len({os.path.normpath(name) for name in names}) < len(names):
         raise Skipped("a file with two names, or a sink that is another file of the case")
-
-
-def faults(plan):
-    """The objects whose calls fail, each by a device; a number of 0 asks for none."""
-    found = {}
+    if any(b"\0" in text for text in plan.words + names):
+        raise Skipped(NOT_TAKEN)
     for statement in STATUS_OF:
-        numbers = [number for number in plan.numbers.get(statement, []) if number]
-        calls = range(1, REPLACE_CALL + (b"-e" in plan.words)) if statement == FILES_FAIL else [1]
+        numbers = [number for number in plan.numbers.get(statement, []) if number]    # 0 is no call
+        calls = [*LOOKS, *[REPLACE_CALL] * (b"-e" in plan.words)] if statement == FILES_FAIL else [1]
         if numbers and numbers not in [[call] for call in calls]:
             raise Skipped(f"only memory can let a call fail behind others: {statement}")
         found.update({statement: number for number in numbers})
     return found
-
-
-def is_unreadable(failing):
-    return 0 < failing.get(FILES_FAIL, 0) < REPLACE_CALL
-
-
-@contextmanager
-def taken():
-    """Skips a plan where the system does not take one of its words or names."""
-    try:
-        yield
-    except (OSError, ValueError) as error:
-        if getattr(error, "errno", errno.EINVAL) not in NOT_TAKEN:
-            raise
-        raise Skipped("a word or a name that the system can not take") from error
 
 
 def write_new(room, name, text):
@@ -347,7 +303,7 @@ def write_new(room, name, text):
 def place_files(room, plan, failing):
     for name, text in plan.files()[0].items():
         path = write_new(room, name, text)
-        if is_unreadable(failing) and path.name == "main.cf":
+        if failing.get(FILES_FAIL) in LOOKS and path.name == "main.cf":
             path.unlink()
             path.mkdir()
     for name, title, statement in zip(sink_names(plan), (b"record", b"log"), (RECORD_FAILS, LOG_FAILS)):
@@ -358,19 +314,19 @@ def place_files(room, plan, failing):
                 path.symlink_to("/dev/full")
 
 
-def feed(end, text, most):
-    with suppress(BrokenPipeError), open(end, "wb", buffering=0) as pipe:
-        for at in range(0, len(text), most or PIPE_SIZE):
-            pipe.write(text[at:at + (most or PIPE_SIZE)])
-
-
 def open_input(plan, most, failing, room):
     """The end of standard input that the program reads, and whether it is a pipe, which a thread feeds."""
     if READ_FAILS in failing:
         return os.open(room, os.O_RDONLY), False
     source, end = os.pipe2(os.O_CLOEXEC | (os.O_DIRECT if most else 0))
     fcntl.fcntl(end, fcntl.F_SETPIPE_SZ, PIPE_SIZE)
-    feeder = threading.Thread(target=feed, args=(end, plan.texts.get(b"input", b""), most), daemon=True)
+    text, size = plan.texts.get(b"input", b""), most or PIPE_SIZE
+
+    def feed():
+        with suppress(BrokenPipeError), open(end, "wb", buffering=0) as pipe:
+            for at in range(0, len(text), size):
+                pipe.write(text[at:at + size])
+    feeder = threading.Thread(target=feed, daemon=True)
     feeder.start()
     if not most:
         feeder.join(1)                 # so that the first read finds all of it
@@ -385,44 +341,32 @@ def run(program, plan, most, failing):
         command = ["sh", "-c", 'ulimit -f 0; trap "" XFSZ; exec "$@"', "sh", *command]
     with tempfile.TemporaryDirectory(prefix="case-") as folder, open("/dev/full", "wb") as full:
         room = Path(folder)
-        with taken():
-            place_files(room, plan, failing)
+        place_files(room, plan, failing)
         source, is_pipe = open_input(plan, most, failing, room)
         output, errors = (full if statement in failing else subprocess.PIPE for statement in (OUTPUT_FAILS, LOG_FAILS))
         try:
-            with taken():
-                process = subprocess.Popen(command, cwd=room, stdin=source, stdout=output, stderr=errors)
-            try:
-                texts = process.communicate(timeout=SECONDS)
-            except subprocess.TimeoutExpired:
-                process.kill()
-                texts = process.communicate()
+            done = subprocess.run(command, cwd=room, stdin=source, stdout=output, stderr=errors, timeout=SECONDS)
             unread = sum(map(len, iter(lambda: os.read(source, PIPE_SIZE), b""))) if is_pipe else 0
         finally:
             os.close(source)
         files = {os.fsencode(path.relative_to(room)): path.read_bytes()
                  for path in room.rglob("*") if path.is_file() and not path.is_symlink()}
-    output, errors = (text or b"" for text in texts)
+    output, errors = done.stdout or b"", done.stderr or b""
     return SimpleNamespace(
-        status=process.returncode, output=output, record=files.pop(record, b""), files=files, unread=unread,
+        status=done.returncode, output=output, record=files.pop(record, b""), files=files, unread=unread,
         can_tell_unread=is_pipe and most < 2,    # a read of less than a packet loses the rest of it
         log=errors if log is None else files.pop(log, b""), stray=b"" if log is None else errors)
 
 
-def first_lines(text, plan, statement):
-    return b"".join(text.splitlines(keepends=True)[:plan.number(statement)]) if plan.says(statement) else text
-
-
 def compared(plan, left, failing):
     """What differs: a name, what was wanted and what came."""
-    files = {} if is_unreadable(failing) else {
-        os.fsencode(os.path.normpath(name)): text for name, text in plan.files()[1].items()}
-    output, log, record = (plan.texts.get(title, b"") for title in (b"output", b"log", b"record"))
-    pairs = [("status", plan.number("status N"), left.status),
-             ("output", first_lines(output, plan, "only the first N replies"), left.output),
-             ("log", first_lines(log, plan, "only the first N log lines"), left.log),
-             ("record", record, left.record), ("standard error beside the log", b"", left.stray)]
-    if plan.says("N bytes are left unread") and left.can_tell_unread:
+    files = {} if failing.get(FILES_FAIL) in LOOKS else {os.path.normpath(name): text for name, text in plan.files()[1].items()}
+    pairs = [("status", plan.number("status N"), left.status)]
+    for title, statement in ("output", "only the first N replies"), ("log", "only the first N log lines"), ("record", ""):
+        text, most = plan.texts.get(title.encode(), b""), plan.number(statement) if statement in plan.numbers else None
+        pairs.append((title, b"".join(re.findall(rb"[^\n]*\n|[^\n]+", text)[:most]), getattr(left, title)))
+    pairs.append(("standard error beside the log", b"", left.stray))
+    if "N bytes are left unread" in plan.numbers and left.can_tell_unread:
         pairs.append(("bytes unread", plan.number("N bytes are left unread"), left.unread))
     pairs += [(f"file {os.fsdecode(name)}", files.get(name), left.files.get(name)) for name in sorted({*files, *left.files})]
     return [pair for pair in pairs if pair[1] != pair[2]]
@@ -430,76 +374,72 @@ def compared(plan, left, failing):
 
 def turn_compared(whole, left, statement):
     """What differs where the first call of an object fails: the run is cut off or, where it makes no such call, whole."""
-    if left.status not in (whole.status, *{STATUS_OF[statement]}) or left.status == whole.status:
-        return [(what, getattr(whole, what), getattr(left, what)) for what in ("status", "output", "log", "record")
-                if getattr(whole, what) != getattr(left, what)]
-    is_told = statement == FILES_FAIL and re.fullmatch(rb"[^\n]*: (?:read|replace) failed\n", left.log)
+    if left.status == whole.status or left.status != STATUS_OF[statement]:
+        pairs = [(what, getattr(whole, what), getattr(left, what)) for what in ("status", "output", "log", "record")]
+        return [pair for pair in pairs if pair[1] != pair[2]]
     is_front = whole.output.startswith(left.output) and whole.record.startswith(left.record)
-    has_log = is_told or statement != FILES_FAIL and whole.log.startswith(left.log)
-    return [] if is_front and has_log else [("texts", b"prefixes", left.log)]
+    is_told = re.fullmatch(rb"[^\n]*: (?:read|replace) failed\n", left.log) if statement == FILES_FAIL else (
+        whole.log.startswith(left.log))
+    return [] if is_front and is_told else [("texts", b"prefixes", left.log)]
 
 
 def difference(what, wanted, came):
     """The line of a difference. Texts that are alike for long are shown from the first byte that differs."""
-    are_texts = isinstance(wanted, bytes) and isinstance(came, bytes)
-    place = len(os.path.commonprefix([wanted, came])) if are_texts else 0
-    cut = slice(place, place + SHOWN) if place >= SHOWN else slice(SHOWN)
-    wanted, came = (repr(b".." * bool(cut.start) + seen[cut])[1:] if isinstance(seen, bytes) else seen for seen in (wanted, came))
+    pair = wanted, came
+    same = len(os.path.commonprefix(pair)) if all(isinstance(text, bytes) for text in pair) else 0
+    front, start = (b"..", same) if same >= SHOWN else (b"", 0)
+    wanted, came = (repr(front + text[start:start + SHOWN])[1:] if isinstance(text, bytes) else text for text in pair)
     return f"{what}: wanted {wanted}, came {came}"
 
 
-def judge_plan(program, plan, answer):
-    """Runs a plan, and adds its differences and the number of runs to the answer."""
-    check_names(plan)
+def judge_runs(program, plan):
+    """The differences of each run of a plan."""
     failing, most = faults(plan), plan.number("reads of N bytes")
-    for size in [most] if plan.says("reads of N bytes") else SIZES:
-        left = run(program, plan, size, failing)
-        answer.runs += 1
-        answer.lines += [f"in reads of {size}: " * (size > 0) + difference(*pair) for pair in compared(plan, left, failing)]
-    if plan.says("each call fails in turn"):
+    for size in [most] if "reads of N bytes" in plan.numbers else SIZES:
+        place, pairs = f"in reads of {size}: " * (size > 0), compared(plan, run(program, plan, size, failing), failing)
+        yield [place + difference(*pair) for pair in pairs]
+    if "each call fails in turn" in plan.numbers:
         whole = run(program, plan, most, {})
         for statement in STATUS_OF:
             pairs = turn_compared(whole, run(program, plan, most, {statement: 1}), statement)
-            answer.runs += 1
-            answer.lines += [f"where {statement.replace('Nth', '1st')}: " + difference(*pair) for pair in pairs]
+            yield [f"where {statement.replace('Nth', '1st')}: {difference(*pair)}" for pair in pairs]
 
 
 def judge_row(program, shared, own, cells, refusal):
     """The differences of a case, or of one row of it, how many runs it took, and why it was skipped, if it was."""
-    answer, parts = SimpleNamespace(lines=[], runs=0, skipped=""), (filled(shared, cells), filled(own, cells))
+    parts, lines, runs, skipped = (filled(shared, cells), filled(own, cells)), [], 0, ""
     try:
         if refusal:
             raise Refused(refusal)
-        judge_plan(program, read_plan(*parts), answer)
+        for found in judge_runs(program, read_plan(parts)):
+            lines, runs = lines + found, runs + 1
     except Refused as words:
         refusal = str(words)
     except Skipped as reason:
-        answer.skipped = str(reason)
-    except (OSError, ValueError) as error:
-        answer.lines.append(f"could not be run: {error}")
+        skipped = str(reason)
+    except (OSError, ValueError, subprocess.TimeoutExpired) as error:
+        skipped = NOT_TAKEN if getattr(error, "errno", None) in NOT_TAKEN_ERRORS else ""
+        lines += [] if skipped else [f"could not be run: {str(error)[:SHOWN]}"]
     wanted = wanted_refusal(*reversed(parts))
-    if wanted != refusal.encode():
-        answer.lines.append(difference("refusal", wanted, refusal.encode()))
-    return answer
+    return lines + [difference("refusal", wanted, refusal.encode())] * (wanted != refusal.encode()), runs, skipped
 
 
-def judge_file(path, program, pool, counts, skipped):
+def judge_cases(file, shared, cases, program, pool, counts, skipped):
     """Runs the cases of a file and prints what differs."""
-    shared, cases = read_file(path)
     answers, lines, rows = [], [], 0
     if not cases or len({case.name for case in cases}) < len(cases):
-        lines.append(f"{path.name}: cases: wanted of different names, came none, or two of one name")
+        lines.append(f"{file}: cases: wanted of different names, came none, or two of one name")
     for case in cases:
-        for row, *rest in case.rows():
-            place, rows = f"{path.name}: {case.name.decode(errors='replace')}: {row}", rows + bool(row)
+        for row, *rest in rows_of(case):
+            place, rows = f"{file}: {case.name.decode(errors='replace')}: {row}", rows + bool(row)
             answers.append((place, pool.submit(judge_row, program, shared, b"\n".join(case.own), *rest)))
-    for place, coming in answers:
-        answer = coming.result()
-        lines += [place + line for line in answer.lines]
-        counts["runs"] += answer.runs
-        skipped.update([answer.skipped] if answer.skipped else [])
+    for place, answer in answers:
+        found, runs, reason = answer.result()
+        lines += [place + line for line in found]
+        counts["runs"] += runs
+        skipped.update([reason] if reason else [])
     counts.update(cases=len(cases), rows=rows, differences=len(lines))
-    print("\n".join([f"{path.name}: {len(cases)} cases, {rows} rows", *lines]), flush=True)
+    print("\n".join([f"{file}: {len(cases)} cases, {rows} rows", *lines]), flush=True)
 
 
 def complain(text):
@@ -507,15 +447,25 @@ def complain(text):
     return 2
 
 
-def judge_files(files, program):
-    """Runs the cases of all files, prints what differs and the counts, and gives the exit status."""
-    counts, skipped, status = Counter(), Counter(), 0
+def main():
+    parser = argparse.ArgumentParser(description=__doc__.splitlines()[0])
+    parser.add_argument("--program", type=Path, default=ROOT / "crates/postgate/out/postgate")
+    parser.add_argument("files", nargs="*", type=Path, metavar="FILE")
+    asked = parser.parse_args()
+    files = asked.files or sorted(CASES.glob("*.case"))
+    sys.stdout.reconfigure(errors="backslashreplace")
+    if not (asked.program.is_file() and os.access(asked.program, os.X_OK)):
+        return complain(f"no program {asked.program}: scripts/build.py builds it")
+    counts, skipped, status = Counter(), Counter(), 0 if files else complain(f"no case file in {CASES}")
     with ThreadPoolExecutor(2 * (os.cpu_count() or 1)) as pool:
         for path in files:
             try:
-                judge_file(path, program, pool, counts, skipped)
+                file = read_file(path)
             except OSError as error:
                 status = complain(f"{path}: {error.strerror}")
+                continue
+            try:
+                judge_cases(path.name, *file, asked.program.resolve(), pool, counts, skipped)
             except MemoryError:
                 pool.shutdown(cancel_futures=True)
                 return complain(f"{path}: not enough memory")
@@ -523,18 +473,6 @@ def judge_files(files, program):
         print(f"skipped {times}: {reason}")
     print(f"{counts['cases']} cases, {counts['rows']} rows, {counts['runs']} runs, {counts['differences']} differ")
     return status or min(counts["differences"], 1)
-
-
-def main():
-    parser = argparse.ArgumentParser(description="Runs case files on the built program.")
-    parser.add_argument("--program", type=Path, default=ROOT / "crates/postgate/out/postgate")
-    parser.add_argument("files", nargs="*", type=Path, metavar="FILE")
-    asked = parser.parse_args()
-    sys.stdout.reconfigure(errors="backslashreplace")
-    files = asked.files or sorted(CASES.glob("*.case"))
-    if not (asked.program.is_file() and os.access(asked.program, os.X_OK)):
-        return complain(f"no program {asked.program}: scripts/build.py builds it")
-    return judge_files(files, asked.program.resolve()) if files else complain(f"no case file in {CASES}")
 
 
 if __name__ == "__main__":
