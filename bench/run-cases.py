@@ -461,14 +461,14 @@ def main():
         for path in files:
             try:
                 file = read_file(path)
-            except OSError as error:
-                status = complain(f"{path}: {error.strerror}")
+            except (OSError, MemoryError) as error:
+                status = complain(f"{path}: {getattr(error, 'strerror', 'not enough memory')}")
                 continue
             try:
                 judge_cases(path.name, *file, asked.program.resolve(), pool, counts, skipped)
-            except MemoryError:
+            except (MemoryError, RuntimeError) as error:    # the second where no thread can be started
                 pool.shutdown(cancel_futures=True)
-                return complain(f"{path}: not enough memory")
+                return complain(f"{path}: {str(error) or 'not enough memory'}")
     for reason, times in sorted(skipped.items()):
         print(f"skipped {times}: {reason}")
     print(f"{counts['cases']} cases, {counts['rows']} rows, {counts['runs']} runs, {counts['differences']} differ")
