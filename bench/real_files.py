@@ -3,8 +3,8 @@
 
 usage: bench/real_files.py [--program PATH]      (crates/postgate/out/postgate where it is left out)
 
-It prints one line for each property, which begins with 'holds' or 'fails', and ends with 1 where one fails. What wants root,
-a device of its own, files of other users and a mount point, is skipped elsewhere, and says so. It takes about a minute.
+It prints one line for each property, which begins with 'holds' or 'fails', and ends with 1 where one fails. What wants
+root, which is a device, files of other users and a mount point, is skipped elsewhere, and says so. It takes about a minute.
 """
 import argparse
 import fcntl
