@@ -1,9 +1,16 @@
 //! What a run left beside what its case wants.
-use crate::plan::Plan;
-use crate::report::{Report, add_number, add_shown};
+use crate::report::{Report, SHOWN, add_number, add_shown};
 use crate::running::{Left, is_as_wanted};
+use case_files::Plan;
 use pf_base::{Bytes, NoMemory};
 use std::alloc::Global;
+
+// Where two texts are shown from: the front, or the first byte that differs where that stands too far behind.
+fn shown_from(wanted: &[u8], seen: &[u8]) -> usize {
+    let place = wanted.iter().zip(seen.iter()).position(|(a, b)| *a != *b);
+    let place = place.unwrap_or(wanted.len().min(seen.len()));
+    if place < SHOWN { 0 } else { place }
+}
 
 /// Reports a difference of this name in the run of this place.
 pub fn differs(
@@ -13,16 +20,17 @@ pub fn differs(
     wanted: &[u8],
     seen: &[u8],
 ) -> Result<(), NoMemory> {
+    let from = shown_from(wanted, seen);
     report.differences = report.differences.saturating_add(1);
-    report.text.extend_all(&[place, what, b": wanted '"])?;
-    add_shown(&mut report.text, wanted)?;
-    report.text.extend(b"', came '")?;
-    add_shown(&mut report.text, seen)?;
-    report.text.extend(b"'\n")
+    report.found.extend_all(&[place, what, b": wanted '"])?;
+    add_shown(&mut report.found, wanted, from)?;
+    report.found.extend(b"', came '")?;
+    add_shown(&mut report.found, seen, from)?;
+    report.found.extend(b"'\n")
 }
 
-// Compares two texts.
-fn compare(
+/// Compares two texts.
+pub fn compare(
     report: &mut Report,
     place: &[u8],
     what: &[u8],

@@ -1,45 +1,14 @@
 //! The cases of a file: each is read, run and compared.
-use crate::case_file::{Case, CaseFile};
-use crate::differences::{compare_run, differs};
-use crate::part::{REFUSED, read_part};
-use crate::plan::{Layer, Plan};
-use crate::refusal::{Fault, Refusal};
+use crate::differences::{compare, compare_run, differs};
 use crate::report::{Report, add_number};
-use crate::rows::Row;
 use crate::running::run_words;
-use crate::statement::LINE_FEEDS;
 use crate::turns::run_turns;
+use case_files::{Case, CaseFile, Fault, Plan, Refusal, Row, plan_of, refusal_of};
 use pf_base::{Bytes, NoMemory};
 use std::alloc::Global;
 
 // The greatest sizes of reads of a case that names none; 0 sets no limit.
 static SIZES: [u64; 3] = [0, 1, 7];
-
-// The words with which the reader has to refuse the case.
-fn refusal_wanted(text: &[u8]) -> Option<&[u8]> {
-    for line in text.split(|b| *b == b'\n') {
-        if let Some(words) = line.strip_prefix(REFUSED) {
-            return Some(words);
-        }
-    }
-    None
-}
-
-fn has_line(text: &[u8], wanted: &[u8]) -> bool {
-    text.split(|b| *b == b'\n').any(|line| line == wanted)
-}
-
-// Reads a case, or one row of it.
-fn plan_of(alloc: Global, file: &CaseFile, case: &Case, row: Row<'_>) -> Result<Plan, Fault> {
-    let shared = row.filled(alloc, file.shared.as_slice())?;
-    let own = row.filled(alloc, case.own.as_slice())?;
-    let has_line_feeds = has_line(shared.as_slice(), LINE_FEEDS)
-        || has_line(own.as_slice(), LINE_FEEDS);
-    let mut plan = Plan::new(alloc, has_line_feeds);
-    read_part(alloc, &mut plan, Layer::Shared, shared.as_slice())?;
-    read_part(alloc, &mut plan, Layer::Own, own.as_slice())?;
-    Ok(plan)
-}
 
 // Runs a plan in reads of at most so many bytes, and compares.
 fn run_size(
@@ -103,6 +72,43 @@ fn run_row(
     }
 }
 
+// Compares the refusal of a case, or of one row of it, with the one that it wants; it may want none.
+fn compare_refusal(
+    report: &mut Report,
+    place: &[u8],
+    wanted: &[u8],
+    seen: Result<(), Fault>,
+) -> Result<(), NoMemory> {
+    let seen: &[u8] = match seen {
+        Ok(()) => b"",
+        Err(Fault::Memory) => return Err(NoMemory),
+        Err(Fault::Refused(refusal)) => refusal.text().as_bytes(),
+    };
+    compare(report, place, b"refusal", wanted, seen)
+}
+
+// Reads and runs a case, or one row of it, and reports a refusal that it does not want, or the want of one.
+fn judge_row(
+    alloc: Global,
+    report: &mut Report,
+    place: &[u8],
+    file: &CaseFile,
+    case: &Case,
+    row: Result<Row<'_>, Fault>,
+) -> Result<(), NoMemory> {
+    match row {
+        Ok(row) => {
+            let wanted = refusal_of(alloc, file, case, row)?;
+            let seen = run_row(alloc, report, place, file, case, row);
+            compare_refusal(report, place, wanted.as_slice(), seen)
+        }
+        Err(fault) => {
+            let wanted = refusal_of(alloc, file, case, Row::none())?;
+            compare_refusal(report, place, wanted.as_slice(), Err(fault))
+        }
+    }
+}
+
 // The place of a row, counted from 1.
 fn row_place(alloc: Global, place: &[u8], number: u64) -> Result<Bytes, NoMemory> {
     let mut text = Bytes::from_slice(alloc, place)?;
@@ -113,46 +119,23 @@ fn row_place(alloc: Global, place: &[u8], number: u64) -> Result<Bytes, NoMemory
 }
 
 // Runs a case for each row of its table.
-fn run_rows(
+fn judge_rows(
     alloc: Global,
     report: &mut Report,
     place: &[u8],
     file: &CaseFile,
     case: &Case,
-) -> Result<(), Fault> {
-    let [columns, rows @ ..] = case.rows.as_slice() else {
-        return Err(Fault::Refused(Refusal::Rows));
-    };
-    if rows.is_empty() {
-        return Err(Fault::Refused(Refusal::Rows));
-    }
+    columns: &[u8],
+) -> Result<(), NoMemory> {
     let mut number: u64 = 0;
-    for cells in rows {
+    for cells in case.rows.iter().skip(1) {
         number = number.saturating_add(1);
-        let row = Row::new(columns.as_slice(), cells.as_slice())?;
         let place = row_place(alloc, place, number)?;
-        run_row(alloc, report, place.as_slice(), file, case, row)?;
+        let row = Row::new(columns, cells.as_slice());
+        judge_row(alloc, report, place.as_slice(), file, case, row)?;
         report.rows = report.rows.saturating_add(1);
     }
     Ok(())
-}
-
-// Reads and runs a case.
-fn run_case(
-    alloc: Global,
-    report: &mut Report,
-    place: &[u8],
-    file: &CaseFile,
-    case: &Case,
-) -> Result<(), Fault> {
-    if case.name.as_slice().is_empty() {
-        return Err(Fault::Refused(Refusal::Name));
-    }
-    match case.tables {
-        0 => run_row(alloc, report, place, file, case, Row::none()),
-        1 => run_rows(alloc, report, place, file, case),
-        _ => Err(Fault::Refused(Refusal::TwoSections)),
-    }
 }
 
 // The place of a case.
@@ -162,7 +145,7 @@ fn case_place(alloc: Global, name: &[u8], case: &Case) -> Result<Bytes, NoMemory
     Ok(place)
 }
 
-// Runs a case, and reports a refusal that it does not want, or the want of one.
+// Runs a case, or each row of it.
 fn judge_case(
     alloc: Global,
     report: &mut Report,
@@ -171,21 +154,24 @@ fn judge_case(
     case: &Case,
 ) -> Result<(), NoMemory> {
     let place = case_place(alloc, name, case)?;
-    let wanted = refusal_wanted(case.own.as_slice()).unwrap_or(b"");
-    let seen: &[u8] = match run_case(alloc, report, place.as_slice(), file, case) {
-        Ok(()) => b"",
-        Err(Fault::Memory) => return Err(NoMemory),
-        Err(Fault::Refused(refusal)) => refusal.text().as_bytes(),
-    };
+    let place = place.as_slice();
     report.cases = report.cases.saturating_add(1);
-    if wanted == seen {
-        Ok(())
+    let refusal = if case.name.as_slice().is_empty() {
+        Refusal::Name
+    } else if case.tables > 1 {
+        Refusal::TwoSections
+    } else if case.tables == 0 {
+        return judge_row(alloc, report, place, file, case, Ok(Row::none()));
+    } else if let [columns, _, ..] = case.rows.as_slice() {
+        return judge_rows(alloc, report, place, file, case, columns.as_slice());
     } else {
-        differs(report, place.as_slice(), b"refusal", wanted, seen)
-    }
+        Refusal::Rows
+    };
+    let refused = Err(Fault::Refused(refusal));
+    judge_row(alloc, report, place, file, case, refused)
 }
 
-// Adds the line of a file: its name, and how many cases and rows it has.
+// Adds the line of a file, its name and how many cases and rows it has, and its differences.
 fn add_count(
     alloc: Global,
     report: &mut Report,
@@ -197,7 +183,10 @@ fn add_count(
     add_number(alloc, &mut report.text, cases)?;
     report.text.extend(b" cases, ")?;
     add_number(alloc, &mut report.text, rows)?;
-    report.text.extend(b" rows\n")
+    report.text.extend(b" rows\n")?;
+    report.text.extend(report.found.as_slice())?;
+    report.found.clear();
+    Ok(())
 }
 
 /// Runs the cases of a file, and reports each difference and how many cases and rows there were.

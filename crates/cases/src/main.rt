@@ -2,19 +2,10 @@
 //! docs/CASES.md is the reference of their format.
 #![tactic(auto)]
 
-mod case_file;
-mod command;
 mod differences;
-mod escapes;
 mod judging;
-mod lines;
-mod part;
-mod plan;
-mod refusal;
 mod report;
-mod rows;
 mod running;
-mod statement;
 mod turns;
 
 use judging::judge_file;
@@ -29,6 +20,11 @@ const SUFFIX: &str = ".case";
 
 /// A case differed, or could not be run.
 const DIFFERS: u8 = 1;
+
+/// A case file could not be read, or memory was wanting.
+const STOPPED: u8 = 2;
+
+const UNREAD: &[u8] = b"cases: a case file can not be read, or there is not enough memory\n";
 
 fn no_memory(_: NoMemory) -> io::Error {
     io::Error::from(io::ErrorKind::OutOfMemory)
@@ -84,6 +80,9 @@ fn main(rt: HostRuntime) -> ExitCode {
     match judge_all(&rt) {
         Ok(true) => ExitCode::SUCCESS,
         Ok(false) => ExitCode::from(DIFFERS),
-        Err(_) => ExitCode::from(2),
+        Err(_) => {
+            let _ = rt.stderr().write_all(UNREAD);
+            ExitCode::from(STOPPED)
+        }
     }
 }

@@ -3,12 +3,13 @@ use pf_base::{Bytes, NoMemory, decimal};
 use std::alloc::Global;
 
 /// The most bytes of a text that a difference shows.
-const SHOWN: usize = 2000;
+pub const SHOWN: usize = 2000;
 
-/// What was counted and seen so far.
+/// What was counted and seen so far: the lines of the files that are done, and the differences of the file that is not.
 #[derive(Drop)]
 pub struct Report {
     pub text: Bytes,
+    pub found: Bytes,
     pub cases: u64,
     pub rows: u64,
     pub runs: u64,
@@ -19,6 +20,7 @@ impl Report {
     pub fn new(alloc: Global) -> Report {
         Report {
             text: Bytes::new(alloc),
+            found: Bytes::new(alloc),
             cases: 0,
             rows: 0,
             runs: 0,
@@ -51,9 +53,12 @@ fn add_shown_byte(text: &mut Bytes, byte: u8) -> Result<(), NoMemory> {
     }
 }
 
-/// Adds a text as escapes write it, cut after some length.
-pub fn add_shown(text: &mut Bytes, bytes: &[u8]) -> Result<(), NoMemory> {
-    for byte in bytes.iter().take(SHOWN) {
+/// Adds a text as escapes write it from this place on, cut after some length.
+pub fn add_shown(text: &mut Bytes, bytes: &[u8], from: usize) -> Result<(), NoMemory> {
+    if from > 0 {
+        text.extend(b"..")?;
+    }
+    for byte in bytes.iter().skip(from).take(SHOWN) {
         add_shown_byte(text, *byte)?;
     }
     Ok(())

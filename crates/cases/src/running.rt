@@ -1,6 +1,5 @@
 //! Runs of a plan over the objects in memory.
-use crate::plan::{Call, Plan, text_of};
-use crate::statement::Object;
+use case_files::{Call, Object, Plan, text_of};
 use pf_base::{Files, List, MemFiles, MemSink, MemSource, NoMemory, Pair, Source};
 use pf_top::run;
 use std::alloc::Global;
@@ -22,22 +21,11 @@ pub struct Left {
     pub unread: u64,
 }
 
-fn is_same(one: Object, other: Object) -> bool {
-    match (one, other) {
-        (Object::Input, Object::Input) => true,
-        (Object::Output, Object::Output) => true,
-        (Object::Record, Object::Record) => true,
-        (Object::Log, Object::Log) => true,
-        (Object::Files, Object::Files) => true,
-        _ => false,
-    }
-}
-
 // The last call of an object that is named; those of the case stand behind those that all cases of its file share.
 fn last_of(calls: &[Call], object: Object) -> Option<Call> {
     let mut last = None;
     for call in calls {
-        if is_same(call.object, object) {
+        if call.object == object {
             last = Some(*call);
         }
     }
@@ -49,7 +37,7 @@ fn numbers_of(alloc: Global, calls: &[Call], object: Object) -> Result<List<u64>
     let mut numbers = List::new(alloc);
     if let Some(last) = last_of(calls, object) {
         for call in calls {
-            if is_same(call.object, object) && call.layer == last.layer {
+            if call.object == object && call.layer == last.layer {
                 numbers.push(call.number)?;
             }
         }

@@ -1,14 +1,10 @@
 //! A case once more for each call of each object, while that call fails.
-use crate::differences::{compare_numbers, differs};
-use crate::plan::{Call, Layer, Plan};
+use crate::differences::{compare, compare_numbers, differs};
 use crate::report::{Report, add_number};
 use crate::running::{Left, counted, run_words};
-use crate::statement::Object;
+use case_files::{Call, Layer, Object, Plan};
 use pf_base::{Bytes, NoMemory};
 use std::alloc::Global;
-
-/// More calls of an object are not tried.
-const MOST_CALLS: u64 = 10_000;
 
 static OBJECTS: [Object; 5] = [
     Object::Input,
@@ -74,6 +70,31 @@ fn place_of(alloc: Global, place: &[u8], call: Call) -> Result<Bytes, NoMemory> 
     Ok(text)
 }
 
+// Compares a run that has the status of the whole one with it in all that it left.
+fn compare_whole(
+    alloc: Global,
+    report: &mut Report,
+    place: &[u8],
+    whole: &Left,
+    left: &Left,
+) -> Result<(), NoMemory> {
+    compare_numbers(alloc, report, place, b"status", whole.status, left.status)?;
+    for (what, wanted, seen) in [
+        (b"output".as_slice(), &whole.output, &left.output),
+        (b"log".as_slice(), &whole.log, &left.log),
+        (b"record".as_slice(), &whole.record, &left.record),
+    ] {
+        compare(
+            report,
+            place,
+            what,
+            wanted.bytes().as_slice(),
+            seen.bytes().as_slice(),
+        )?;
+    }
+    Ok(())
+}
+
 // Runs the case while one call fails, and says whether the run met the fault.
 fn run_turn(
     alloc: Global,
@@ -89,14 +110,7 @@ fn run_turn(
     report.runs = report.runs.saturating_add(1);
     if left.status != status_of(call.object) {
         let place = place_of(alloc, place, call)?;
-        compare_numbers(
-            alloc,
-            report,
-            place.as_slice(),
-            b"status",
-            whole.status,
-            left.status,
-        )?;
+        compare_whole(alloc, report, place.as_slice(), whole, &left)?;
         return Ok(false);
     }
     if !is_cut_off(call.object, whole, &left) {
@@ -122,7 +136,7 @@ fn count_turns(
     whole: &Left,
     object: Object,
 ) -> Result<u64, NoMemory> {
-    for number in 1..MOST_CALLS {
+    for number in 1..u64::MAX {
         let call = Call {
             object,
             number,
@@ -132,7 +146,7 @@ fn count_turns(
             return Ok(number.saturating_sub(1));
         }
     }
-    Ok(MOST_CALLS)
+    Ok(u64::MAX)
 }
 
 /// Runs the case once for each call of each object, and reports each difference.

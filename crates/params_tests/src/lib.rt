@@ -6,8 +6,6 @@ mod expansion_tests;
 #[cfg(test)]
 mod known_tests;
 #[cfg(test)]
-mod refusals_tests;
-#[cfg(test)]
 mod settings_tests;
 #[cfg(test)]
 mod support;

@@ -1,23 +1,18 @@
 //! What the tests share: a question to the settings of a main.cf, and its answer as a text. One function alone owns settings.
 use pf_base::{Bytes, ConfFault, List, NoMemory, Refused, Specs, TableId, decimal};
-use pf_catalogue::{Kind, Param, kind_of, param, param_name};
+use pf_catalogue::{Kind, Param, kind_of, param};
 use pf_maincf::{MainCf, Setting};
 use pf_params::Settings;
 use std::alloc::Global;
 
-/// What is asked of the settings of a main.cf: whether they are accepted; of a parameter its default, its value, what that
-/// says or its line; the items of a class; the table texts; the value of a text; or how long the values of so many settings
-/// are.
+/// What is asked of the settings of a main.cf: what the value of a parameter says, or its line; the items of a class; the table
+/// texts; or how long the values of so many settings are.
 #[derive(Clone, Copy)]
 pub(crate) enum Question<'a> {
-    Accepted,
-    Default(&'a [u8]),
-    Value(&'a [u8]),
     Said(&'a [u8]),
     Line(&'a [u8]),
     Class(&'a [u8]),
     Specs,
-    Text(&'a [u8]),
     Many(u64),
 }
 
@@ -49,14 +44,6 @@ fn yes_text(alloc: Global, yes: bool) -> Result<Bytes, NoMemory> {
             b"no".as_slice()
         },
     )
-}
-
-// The name and the default of a parameter that is not set.
-fn default_text(alloc: Global, settings: &Settings, p: Param) -> Result<Bytes, NoMemory> {
-    let mut printed = Bytes::from_slice(alloc, param_name(p))?;
-    printed.extend(b" = ")?;
-    printed.extend(settings.raw(p).as_slice())?;
-    Ok(printed)
 }
 
 // What the value of a parameter says.
@@ -153,8 +140,6 @@ fn parameter_answer(
     question: Question<'_>,
 ) -> Result<Bytes, NoMemory> {
     match question {
-        Question::Default(_) => default_text(alloc, settings, p),
-        Question::Value(_) => settings.text(p).copy(alloc),
         Question::Said(_) => said(alloc, settings, p),
         Question::Line(_) => number_text(alloc, settings.line(p)),
         _ => Bytes::from_slice(alloc, b"none"),
@@ -175,14 +160,10 @@ fn named_answer(
 
 fn answer(alloc: Global, settings: &Settings, question: Question<'_>) -> Result<Bytes, NoMemory> {
     match question {
-        Question::Accepted => settings.file().copy(alloc),
-        Question::Default(name) => named_answer(alloc, settings, name, question),
-        Question::Value(name) => named_answer(alloc, settings, name, question),
         Question::Said(name) => named_answer(alloc, settings, name, question),
         Question::Line(name) => named_answer(alloc, settings, name, question),
         Question::Class(name) => class_text(alloc, settings, name),
         Question::Specs => specs_text(alloc, settings),
-        Question::Text(text) => text_value(alloc, settings, text),
         Question::Many(count) => length_of_many(alloc, settings, count),
     }
 }

@@ -5,7 +5,7 @@ use pf_base::{Bytes, NoMemory};
 use std::alloc::Global;
 
 /// What a run works on, each with its own calls and its own status of a fault.
-#[derive(Clone, Copy)]
+#[derive(Clone, Copy, PartialEq, Eq)]
 pub enum Object {
     Input,
     Output,
@@ -15,8 +15,10 @@ pub enum Object {
 }
 
 /// What a line says; the number that it has is read beside it.
-#[derive(Clone, Copy)]
+#[derive(Clone, Copy, PartialEq, Eq)]
 pub enum Statement {
+    Command,
+    Refused,
     Status,
     Reads,
     Fails(Object),

@@ -4,11 +4,22 @@ use pf_base::trimmed;
 /// The greatest number that a statement or an escape may have.
 const MOST: u64 = 4_294_967_296;
 
-// What stands between two marks, without the blanks round it.
+// A line without the blanks, tabs and CRs at its end.
+fn without_end(line: &[u8]) -> &[u8] {
+    match line
+        .iter()
+        .rposition(|b| !matches!(*b, b' ' | b'\t' | b'\r'))
+    {
+        None => b"",
+        Some(last) => line.get(..last.saturating_add(1)).unwrap_or(line),
+    }
+}
+
+// What stands between two marks, without the blanks round it; blanks and a CR behind the second mark do not count.
 fn between<'a>(line: &'a [u8], front: &[u8], end: &[u8]) -> Option<&'a [u8]> {
     match line.strip_prefix(front) {
         None => None,
-        Some(rest) => match rest.strip_suffix(end) {
+        Some(rest) => match without_end(rest).strip_suffix(end) {
             None => None,
             Some(inner) => Some(trimmed(inner)),
         },

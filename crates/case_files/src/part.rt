@@ -4,7 +4,7 @@ use crate::escapes::add_unescaped;
 use crate::lines::{is_silent, section_title};
 use crate::plan::{Layer, Plan, Text, begin_file};
 use crate::refusal::{Fault, Refusal};
-use crate::statement::statement_of;
+use crate::statement::{Statement, statement_of};
 use pf_base::Bytes;
 use std::alloc::Global;
 
@@ -40,6 +40,7 @@ enum Speaker {
 pub struct Reader {
     layer: Layer,
     section: Section,
+    said: Vec<Statement>,
     has_escapes: bool,
     empty_lines: u64,
     has_sent: bool,
@@ -77,7 +78,7 @@ fn begin_named(
         None => (title, false),
         Some(name) => (name, true),
     };
-    if !name.iter().any(|b| *b == b'.' || *b == b'/') {
+    if !name.iter().any(|b| *b == b'.' || *b == b'/') || str::from_utf8(name).is_err() {
         return Err(Fault::Refused(Refusal::Section));
     }
     let files = if is_afterwards {
@@ -117,10 +118,11 @@ fn spoken(line: &[u8]) -> Result<(Speaker, &[u8]), Fault> {
 }
 
 impl Reader {
-    pub fn new(layer: Layer) -> Reader {
+    pub fn new(alloc: Global, layer: Layer) -> Reader {
         Reader {
             layer,
             section: Section::Outside,
+            said: Vec::new(alloc),
             has_escapes: false,
             empty_lines: 0,
             has_sent: false,
@@ -195,16 +197,32 @@ impl Reader {
         add_line(text, line, self.has_escapes, b"\n")
     }
 
+    // Takes note of a statement. Several calls may fail; any other kind comes once in a part.
+    fn say(&mut self, statement: Statement) -> Result<(), Fault> {
+        if self.said.iter().any(|said| *said == statement) {
+            return Err(Fault::Refused(Refusal::TwoStatements));
+        }
+        if !matches!(statement, Statement::Fails(_)) {
+            self.said.push(statement)?;
+        }
+        Ok(())
+    }
+
     // Takes a statement, or a line that says nothing.
     fn take_statement(&mut self, alloc: Global, plan: &mut Plan, line: &[u8]) -> Result<(), Fault> {
-        if is_silent(line) || line.starts_with(REFUSED) {
+        if is_silent(line) {
             return Ok(());
         }
+        if line.starts_with(REFUSED) {
+            return self.say(Statement::Refused);
+        }
         if let Some(words) = command_of(alloc, line)? {
+            self.say(Statement::Command)?;
             plan.words = Some(words);
             return Ok(());
         }
         let (statement, number) = statement_of(alloc, line)?;
+        self.say(statement)?;
         plan.apply(statement, number, self.layer)?;
         Ok(())
     }
@@ -232,7 +250,7 @@ impl Reader {
 
 /// Reads a part into the plan.
 pub fn read_part(alloc: Global, plan: &mut Plan, layer: Layer, text: &[u8]) -> Result<(), Fault> {
-    let mut reader = Reader::new(layer);
+    let mut reader = Reader::new(alloc, layer);
     for line in text.split(|b| *b == b'\n') {
         match section_title(line) {
             Some(title) => reader.open(alloc, plan, title)?,

@@ -10,9 +10,11 @@ pub enum Refusal {
     Command,
     Quote,
     TwoSections,
+    TwoStatements,
     SessionLine,
     Escape,
     Cells,
+    Columns,
     Rows,
     Name,
 }
@@ -26,9 +28,11 @@ impl Refusal {
             Refusal::Command => "no command",
             Refusal::Quote => "open quote",
             Refusal::TwoSections => "two sections of one title",
+            Refusal::TwoStatements => "two statements of one kind",
             Refusal::SessionLine => "no line of a session",
             Refusal::Escape => "bad escape",
             Refusal::Cells => "another number of cells",
+            Refusal::Columns => "two columns of one name",
             Refusal::Rows => "no rows",
             Refusal::Name => "case without a name",
         }

@@ -127,7 +127,10 @@ impl Plan {
                 number,
                 layer,
             })?,
-            Statement::LineFeeds | Statement::MemoryOnly => {}
+            Statement::Command
+            | Statement::Refused
+            | Statement::LineFeeds
+            | Statement::MemoryOnly => {}
         }
         Ok(())
     }

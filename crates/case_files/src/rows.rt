@@ -18,6 +18,27 @@ fn count_cells(line: &[u8]) -> u64 {
     count
 }
 
+// How many columns have this name.
+fn count_named(columns: &[u8], name: &[u8]) -> u64 {
+    let mut count: u64 = 0;
+    for column in columns.split(|b| *b == b'|') {
+        if trimmed(column) == name {
+            count = count.saturating_add(1);
+        }
+    }
+    count
+}
+
+// Whether two columns have one name.
+fn has_twins(columns: &[u8]) -> bool {
+    for column in columns.split(|b| *b == b'|') {
+        if count_named(columns, trimmed(column)) > 1 {
+            return true;
+        }
+    }
+    false
+}
+
 impl<'a> Row<'a> {
     /// The row of a case that has none.
     pub fn none() -> Row<'a> {
@@ -27,9 +48,11 @@ impl<'a> Row<'a> {
         }
     }
 
-    /// A row with as many cells as there are columns.
+    /// A row with as many cells as there are columns, which have different names.
     pub fn new(columns: &'a [u8], cells: &'a [u8]) -> Result<Row<'a>, Fault> {
-        if count_cells(columns) == count_cells(cells) {
+        if has_twins(columns) {
+            Err(Fault::Refused(Refusal::Columns))
+        } else if count_cells(columns) == count_cells(cells) {
             Ok(Row { columns, cells })
         } else {
             Err(Fault::Refused(Refusal::Cells))

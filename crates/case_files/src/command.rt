@@ -33,7 +33,7 @@ impl Words {
             self.is_quoted = !self.is_quoted;
             self.has_word = true;
             Ok(())
-        } else if byte == b' ' && !self.is_quoted {
+        } else if matches!(byte, b' ' | b'\t') && !self.is_quoted {
             self.end_word(alloc)
         } else {
             self.has_word = true;
@@ -66,7 +66,7 @@ pub fn command_of(alloc: Global, line: &[u8]) -> Result<Option<Vec<String>>, Fau
     match line.strip_prefix(PROMPT) {
         None => Ok(None),
         Some([]) => Ok(Some(Vec::new(alloc))),
-        Some([b' ', words @ ..]) => Ok(Some(words_in(alloc, words)?)),
+        Some([b' ' | b'\t', words @ ..]) => Ok(Some(words_in(alloc, words)?)),
         Some(_) => Ok(None),
     }
 }
