@@ -7,10 +7,12 @@ Runs `rt ci --anew`, of the whole repository or of the crates named, looks four 
 prints a line a crate: the processor seconds of its proof, of the building of its tests and programs, and of the edits
 that have to be refused, and the seconds by the clock in which its proof ran. The last lines are the longest chain of
 proofs, each of which waits for the one before, and the whole in processor time and by the clock. A process that lives
-less than a look is counted in the whole alone.
+less than a look is counted in the whole alone. Where no proof was seen there is no chain. The exit status is that of the
+gate, and 2 where there is no rt.
 """
 import os
 import resource
+import shutil
 import subprocess
 import sys
 import time
@@ -104,15 +106,18 @@ def below():
 
 
 def longest_chain(crates, clock):
-    """The seconds of the longest chain of proofs, and its crates from the lowest."""
+    """The seconds of the longest chain of proofs, and its crates from the lowest, of those whose proofs were seen."""
     chains = {}
     for name, deps in crates.items():
-        before = max((chains[dep] for dep in deps if dep in chains), default=(0.0, []))
-        chains[name] = before[0] + clock(name), before[1] + [name]
-    return max(chains.values())
+        seconds, names = max((chains[dep] for dep in deps if dep in chains), default=(0.0, []))
+        chains[name] = seconds + clock(name), names + [name] * (clock(name) > 0)
+    return max(chains.values(), default=(0.0, []))
 
 
 def main():
+    if not shutil.which("rt"):
+        print("gate.py: rt is not on the path: it is the gate that is measured", file=sys.stderr)
+        return 2
     began = time.monotonic()
     with subprocess.Popen(["rt", "ci", "--anew", *sys.argv[1:]], cwd=TOP) as gate:
         watch = Watch(gate.pid)
@@ -121,12 +126,14 @@ def main():
             time.sleep(0.25)
     spent, clock = resource.getrusage(resource.RUSAGE_CHILDREN), time.monotonic() - began
     rows = watch.table()
-    print("| Crate | " + " | ".join(KINDS) + " | all | proof by the clock |")
+    if rows:
+        print("| Crate | " + " | ".join(KINDS) + " | all | proof by the clock |")
     for crate in sorted(rows, key=lambda name: -sum(rows[name].values())):
         cells = [*rows[crate].values(), sum(rows[crate].values()), watch.clock(crate)]
         print(f"| {crate} | " + " | ".join(f"{seconds:.0f}" for seconds in cells) + " |")
     seconds, names = longest_chain(below(), watch.clock)
-    print(f"longest chain of proofs: {seconds:.0f} s by the clock: {', '.join(names)}")
+    if names:
+        print(f"longest chain of proofs: {seconds:.0f} s by the clock: {', '.join(names)}")
     print(f"the whole: {spent.ru_utime + spent.ru_stime:.0f} processor seconds, {clock:.0f} by the clock, "
           f"on {os.cpu_count()} processors")
     return gate.returncode

@@ -3,8 +3,8 @@
 
 usage: bench/real_files.py [--program PATH]      (crates/postgate/out/postgate where it is left out)
 
-It prints one line for each property, which begins with 'holds' or 'fails', and ends with 1 where one fails. What wants root,
-a device of its own and files of other users, is skipped elsewhere, and says so. It takes about a minute.
+It prints one line for each property, which begins with 'holds' or 'fails', and ends with 1 where one fails. What wants
+root, which is a device, files of other users and a mount point, is skipped elsewhere, and says so. It takes about a minute.
 """
 import argparse
 import fcntl
@@ -43,6 +43,9 @@ mydestination = example.com
 mynetworks = 10.0.0.0/8
 smtpd_relay_restrictions = permit_mynetworks, reject_unauth_destination
 """
+SESSION = ["smtpd", "-p", "192.0.2.9", "-m", "mail"]
+SESSION_TEXT = "MAIL FROM:<a@b.test>\r\nRCPT TO:<joe@example.com>\r\n"
+GREETING = "220 mx.example.com ESMTP Postfix\r\n"
 
 
 class Shown(Exception):
@@ -61,10 +64,10 @@ class Program:
     def start(self, folder, *words, **how):
         return subprocess.Popen([self.path, *words], cwd=folder, **how)
 
-    def run(self, folder, *words, text="", **how):
-        """The status, the output and the log; a program that does not end in time has failed."""
+    def run(self, folder, *words, text="", before=(), **how):
+        """The status, the output and the log; a program that does not end in time has failed. The words of `before` start it."""
         try:
-            done = subprocess.run([self.path, *words], cwd=folder, input=text.encode(), capture_output=True,
+            done = subprocess.run([*before, self.path, *words], cwd=folder, input=text.encode(), capture_output=True,
                                   timeout=LONGEST, check=False, **how)
         except subprocess.TimeoutExpired as late:
             raise Shown(f"{' '.join(words)} hangs") from late
@@ -72,6 +75,10 @@ class Program:
 
     def edit(self, folder, *settings, **how):
         return self.run(folder, "postconf", "-e", *settings, **how)[0]
+
+
+def shell(commands="", redirections=""):
+    return ["sh", "-c", f'{commands} exec "$0" "$@" {redirections}']
 
 
 @contextmanager
@@ -201,6 +208,22 @@ def make_socket(path):
     server.close()
 
 
+def limited(program):
+    """an edit that a limit on the size of files ends"""
+    with folder_with(text_of(0)) as folder:
+        (folder / "main.cf").chmod(0o600)
+        status = program.edit(folder, "b=2", before=shell("umask 0; ulimit -c 0; ulimit -f 1;"))
+        want(status == -signal.SIGXFSZ, f"the status {status}")
+        want((folder / "main.cf").read_text() == text_of(0), "main.cf is changed")
+        want(names_in(folder) == ["main.cf", "main.cf.tmp"], f"it left {names_in(folder)}")
+        mode = stat.S_IMODE(os.stat(folder / "main.cf.tmp").st_mode)
+        want(mode == 0o600, f"main.cf.tmp has the permissions {mode:o}")
+        want(program.edit(folder, "b=2") == 0, "the next edit is refused")
+        want(names_in(folder) == ["main.cf"], f"left beside: {names_in(folder)}")
+    return ("an edit that `ulimit -f` ends leaves main.cf as it was, and main.cf.tmp, which only the owner can read where that is so "
+            "of main.cf, and which the next edit removes")
+
+
 KINDS = [
     ("a FIFO", os.mkfifo),
     ("a socket", make_socket),
@@ -220,17 +243,17 @@ def no_plain_file(program):
                 (folder / "main.cf").symlink_to("other")
             refuse_all(program, folder, f"a link to {kind}" if linked else kind)
         shown += [kind]
-    for target in ("/dev/zero", "/dev/null", "nothing"):
+    for target in ("/dev/zero", "/dev/null", "/proc/version", "nothing"):
         with folder_with() as folder:
             (folder / "main.cf").symlink_to(target)
             refuse_all(program, folder, f"a link to {target}")
-    return (f"{', '.join(dict.fromkeys(shown))}, a link to each, and links to /dev/zero, /dev/null and nothing are read and replaced "
-            "with status 8, at once, and stay")
+    return (f"{', '.join(dict.fromkeys(shown))}, a link to each, and links to /dev/zero, /dev/null, /proc/version and nothing give "
+            "status 8, at once, to reads and edits, and stay")
 
 
 def refuse_all(program, folder, kind):
     entries = [(entry, os.lstat(entry)) for entry in sorted(folder.iterdir())]
-    for words in (["postconf", "-n"], ["postconf", "-e", "a=1"], ["smtpd", "-p", "192.0.2.9", "-m", "mail"]):
+    for words in (["postconf", "-n"], ["postconf", "-e", "a=1"], SESSION):
         status, out, log = program.run(folder, *words)
         want((status, out, log) == (8, "", "postgate: main.cf: read failed\n"), f"{kind}, {words[0]}: {(status, out, log)}")
     now = [(entry, os.lstat(entry)) for entry in sorted(folder.iterdir())]
@@ -250,6 +273,38 @@ def links(program):
         want((folder / "below/target").read_text() == "a = 2\n", "the target is not edited")
         want((names_in(folder), names_in(folder / "below")) == (["below", "main.cf"], ["link", "target"]), "something is left beside")
     return "an edit through two links replaces the file that they lead to, and the links stay"
+
+
+def read_alone(program):
+    """files that are read and not replaced"""
+    shown = ["a link to a path that is not UTF-8", "a link to a name that leaves no room for .tmp"]
+    for target in (b"caf\xe9/target", b"t" * 252):
+        with folder_with() as folder:
+            path = os.path.join(os.fsencode(folder), target)
+            os.makedirs(os.path.dirname(path), exist_ok=True)
+            Path(os.fsdecode(path)).write_text("a = 1\n")
+            os.symlink(target, os.path.join(os.fsencode(folder), b"main.cf"))
+            want_read_alone(program, folder, f"a link to {target[:12]!r}")
+    if subprocess.run(["unshare", "-m", "true"], capture_output=True, check=False).returncode == 0:
+        with folder_with("") as folder:
+            (folder / "other").write_text("a = 1\n")
+            want_read_alone(program, folder, "a mount point", before=["unshare", "-m", *shell("mount --bind other main.cf;")])
+        shown.append("a mount point")
+    else:
+        shown.append("(a mount point: skipped, which wants root)")
+    return f"read and not replaced, with status 8 and nothing changed: {', '.join(shown)}"
+
+
+def want_read_alone(program, folder, kind, **how):
+    def texts():
+        return sorted((path, path.read_text()) for path in folder.rglob("*") if path.is_file())
+
+    before = texts()
+    got = program.run(folder, "postconf", "-n", **how)
+    want(got == (0, "a = 1\n", ""), f"{kind}: a read gives {got}")
+    got = program.run(folder, "postconf", "-e", "a=2", **how)
+    want(got == (8, "", "postgate: main.cf: replace failed\n"), f"{kind}: an edit gives {got}")
+    want(texts() == before, f"{kind}: the edit leaves {texts()}")
 
 
 def taken_beside(program):
@@ -324,7 +379,7 @@ def log_session(program, folder, session):
     """Runs a session whose input comes in small pieces, by a packet pipe, so that each is a write to the log."""
     text = "MAIL FROM:<a@b.test>\r\n" + "".join(f"RCPT TO:<user{number}@s{session}.test>\r\n" for number in range(RECIPIENTS))
     source, pipe = os.pipe2(os.O_DIRECT | os.O_CLOEXEC)
-    process = program.start(folder, "smtpd", "-p", "192.0.2.9", "-m", "mail", "-l", "log", stdin=source, stdout=subprocess.DEVNULL)
+    process = program.start(folder, *SESSION, "-l", "log", stdin=source, stdout=subprocess.DEVNULL)
     os.close(source)
     try:
         for at in range(0, len(text), A_PIECE):
@@ -340,9 +395,9 @@ def log_line(session, number):
 
 def other_logs(program):
     """logs that are no plain files"""
-    text = "MAIL FROM:<a@b.test>\r\nRCPT TO:<joe@example.com>\r\n"
+    text = SESSION_TEXT
     line = "2 RCPT <joe@example.com> accept\n"
-    words = ["smtpd", "-p", "192.0.2.9", "-m", "mail", "-l"]
+    words = [*SESSION, "-l"]
     with folder_with(SESSION_CF) as folder:
         want(program.run(folder, *words, "/dev/null", text=text)[0] == 0, "/dev/null")
         want(program.run(folder, *words, "/dev/stderr", text=text)[::2] == (0, line), "a pipe by /dev/stderr")
@@ -361,7 +416,51 @@ def other_logs(program):
     return "a log by the name of /dev/null, a pipe, a FIFO, a terminal or a link is written to as it is; /dev/full and a folder give status 7"
 
 
-PROPERTIES = [reads_under_edits, two_edits_at_once, crashes, no_plain_file, links, taken_beside, owners, shared_log, other_logs]
+def want_run(program, folder, redirections, words, wanted):
+    got = program.run(folder, *words, text=SESSION_TEXT, before=shell(redirections=redirections))
+    want(got == wanted, f"{' '.join(words)} {redirections}: {got}")
+
+
+def closed_input(program):
+    """standard input that is closed"""
+    with folder_with(SESSION_CF) as folder:
+        want_run(program, folder, "<&-", [*SESSION, "-l", "log"], (4, GREETING, ""))
+        want_run(program, folder, "<&-", SESSION, (4, GREETING, ""))
+        want_run(program, folder, "<&-", ["postconf", "-n", "mynetworks"], (0, "mynetworks = 10.0.0.0/8\n", ""))
+        want(names_in(folder) == ["main.cf"], f"it left {names_in(folder)}")
+    return "with standard input closed a session has the greeting alone and status 4, and no line in its log; postconf is as ever"
+
+
+def closed_output(program):
+    """standard output that is closed"""
+    with folder_with(SESSION_CF) as folder:
+        for redirections in (">&-", "<&- >&-"):
+            want_run(program, folder, redirections, [*SESSION, "-l", "log"], (5, "", ""))
+            want_run(program, folder, redirections, ["postconf", "-n"], (5, "", ""))
+        want((folder / "main.cf").read_text() == SESSION_CF and names_in(folder) == ["main.cf"], f"it left {names_in(folder)}")
+        want_run(program, folder, "<&- >&-", ["postconf", "-e", "a=1"], (0, "", ""))
+        want((folder / "main.cf").read_text() == SESSION_CF + "a = 1\n", "the edit is not there")
+    return "with standard output closed a session and postconf have status 5, and no file has their lines; an edit is as ever"
+
+
+def closed_log(program):
+    """standard error that is closed"""
+    with folder_with(SESSION_CF) as folder:
+        want_run(program, folder, "2>&-", SESSION, (7, GREETING, ""))
+        for redirections in ("2>&-", "<&- 2>&-", "<&- >&- 2>&-"):
+            want_run(program, folder, redirections, ["postconf", "nosuch"], (7, "", ""))
+            want_run(program, folder, redirections, ["nosuch"], (7, "", ""))
+            (folder / "main.cf.tmp").mkdir()
+            want_run(program, folder, redirections, ["postconf", "-e", "a=1"], (7, "", ""))
+            (folder / "main.cf.tmp").rmdir()
+        want((folder / "main.cf").read_text() == SESSION_CF and names_in(folder) == ["main.cf"], f"it left {names_in(folder)}")
+        want_run(program, folder, "<&- >&- 2>&-", ["postconf", "-e", "a=1"], (0, "", ""))
+        want((folder / "main.cf").read_text() == SESSION_CF + "a = 1\n", "the edit is not there")
+    return "with standard error closed a log line, a warning, the usage line and a fault have status 7, and no file has their lines"
+
+
+PROPERTIES = [reads_under_edits, two_edits_at_once, crashes, limited, no_plain_file, links, read_alone, taken_beside, owners, shared_log,
+              other_logs, closed_input, closed_output, closed_log]
 
 
 def main():

@@ -4,6 +4,7 @@
 mod plain;
 mod real;
 mod replacement;
+mod streams;
 #[cfg(test)]
 mod tests;
 
@@ -14,9 +15,14 @@ use std::alloc::Global;
 use std::env;
 use std::io::ErrorKind;
 use std::process::ExitCode;
+use streams::take_up;
 
 // The statuses that are answered before the top call.
 const USAGE: u8 = 2;
+
+const INPUT_FAILED: u8 = 4;
+
+const OUTPUT_FAILED: u8 = 5;
 
 const LOG_FAILED: u8 = 7;
 
@@ -62,14 +68,29 @@ fn answer(rt: &HostRuntime, alloc: Global, words: &[String]) -> u8 {
     }
 }
 
-fn main(rt: HostRuntime) -> ExitCode {
+// Runs the command of the process's words.
+fn answer_process(rt: &HostRuntime) -> u8 {
     let alloc = rt.alloc();
-    let status = match env::args(&rt) {
+    match env::args(rt) {
         Ok(args) => match args.skip(1).collect::<Vec<String>>(alloc) {
-            Ok(words) => answer(&rt, alloc, &words),
+            Ok(words) => answer(rt, alloc, &words),
             Err(_) => NO_MEMORY,
         },
-        Err(fault) => answer_fault(&rt, fault.kind()),
+        Err(fault) => answer_fault(rt, fault.kind()),
+    }
+}
+
+// Takes up the standard streams that are closed, from the lowest descriptor on; the status of the first that can not be.
+fn take_up_streams(rt: &HostRuntime) -> Result<(), u8> {
+    take_up(rt, &rt.stdin()).map_err(|_| INPUT_FAILED)?;
+    take_up(rt, &rt.stdout()).map_err(|_| OUTPUT_FAILED)?;
+    take_up(rt, &rt.stderr()).map_err(|_| LOG_FAILED)
+}
+
+fn main(rt: HostRuntime) -> ExitCode {
+    let status = match take_up_streams(&rt) {
+        Ok(()) => answer_process(&rt),
+        Err(status) => status,
     };
     ExitCode::from(status)
 }

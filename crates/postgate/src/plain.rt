@@ -43,14 +43,25 @@ impl PlainFile {
         Ok(PlainFile { file, metadata })
     }
 
+    // A file of the kernel, as those of /proc, has bytes beyond the size 0 that the system says of it.
+    fn require_true_size(&self) -> io::Result<()> {
+        if self.size() == 0 && self.read_at(0, &mut [0])? > 0 {
+            Err(io::Error::new(ErrorKind::InvalidInput, "more bytes than its size"))
+        } else {
+            Ok(())
+        }
+    }
+
     /// Opens the file that a name leads to; None where nothing has the name. All but a plain file is a fault, a link that
-    /// leads nowhere too. It is looked at before it is opened, since opening a FIFO waits for its writer.
+    /// leads nowhere and a file of the size 0 that has bytes too. It is looked at before it is opened, since opening a FIFO
+    /// waits for its writer.
     pub fn find(rt: &HostRuntime, name: &str) -> io::Result<Option<PlainFile>> {
         if is_absent(rt, name)? {
             return Ok(None);
         }
         require_plain(&fs::metadata(rt, name)?)?;
         let file = PlainFile::new(fs::open(rt, name)?)?;
+        file.require_true_size()?;
         Ok(Some(file))
     }
 

@@ -1,6 +1,6 @@
 //! The replacement of a file. The new one is written beside it, under its name with `.tmp` behind it, and put in its place once
-//! it is whole on the disk. It is locked meanwhile, as in Postfix's edit_file: only who has the lock of the file that stands
-//! under that name moves or removes it, so of several that replace one file at a time all but one fail.
+//! it is whole on the disk. It is locked meanwhile: only who has the lock of the file that stands under that name moves or
+//! removes it, so of several that replace one file at a time all but one fail.
 use crate::plain::{PlainFile, is_absent};
 use std::io::ErrorKind;
 use std::path::PathBuf;

@@ -1,9 +1,13 @@
 use crate::real::{FileSink, RealFiles, Writing};
+use crate::streams::take_up;
 use pf_base::{Files, OuterFault, Sink};
-use std::fs;
 use std::fs::Permissions;
+use std::io::Write;
+use std::os::fd::AsRawFd;
 use std::os::unix::fs::{PermissionsExt, symlink};
 use std::test::Fail;
+use std::time::{Duration, UNIX_EPOCH};
+use std::{fs, io};
 
 fn replaced(rt: &HostRuntime, name: &str, bytes: &[u8]) -> Result<(), OuterFault> {
     RealFiles::new(rt).replace(name, bytes)
@@ -12,6 +16,25 @@ fn replaced(rt: &HostRuntime, name: &str, bytes: &[u8]) -> Result<(), OuterFault
 // There is a file, a folder or a link of this name.
 fn is_there(rt: &HostRuntime, name: &str) -> bool {
     fs::symlink_metadata(rt, name).is_ok()
+}
+
+// Writes a text into a file of this name as it stands, which was last changed so long after 1970.
+fn write_in_place(rt: &HostRuntime, name: &str, text: &str, age: Duration) -> io::Result<()> {
+    let mut file = fs::create(rt, name)?;
+    file.write_all(text.as_bytes())?;
+    file.set_modified(UNIX_EPOCH.checked_add(age).unwrap_or(UNIX_EPOCH))
+}
+
+// A file whose text is another one when it is to be replaced than when it was found keeps that text.
+fn is_kept(rt: &HostRuntime, name: &str, text: &str, age: Duration) -> Result<bool, Fail> {
+    write_in_place(rt, name, "a", Duration::ZERO)?;
+    let mut files = RealFiles::new(rt);
+    let found = files.size(name);
+    write_in_place(rt, name, text, age)?;
+    let answer = files.replace(name, b"c");
+    let kept = fs::read_to_string(rt, name)?;
+    fs::remove_file(rt, name)?;
+    Ok(found == Ok(Some(1)) && answer == Err(OuterFault::Failed) && kept.as_str() == text)
 }
 
 #[test]
@@ -83,6 +106,27 @@ fn a_file_that_takes_the_name_is_not_seen(rt: HostRuntime) -> Result<(), Fail> {
 }
 
 #[test]
+fn a_text_that_is_written_meanwhile_is_kept(rt: HostRuntime) -> Result<(), Fail> {
+    assert_eq!(rt; is_kept(&rt, "longer", "bc", Duration::ZERO)?, true);
+    assert_eq!(rt; is_kept(&rt, "second", "b", Duration::new(1, 0))?, true);
+    assert_eq!(rt; is_kept(&rt, "nanosecond", "b", Duration::new(0, 1))?, true);
+    Ok(())
+}
+
+#[test]
+fn another_file_of_that_size_and_time_is_kept(rt: HostRuntime) -> Result<(), Fail> {
+    write_in_place(&rt, "old", "a", Duration::ZERO)?;
+    write_in_place(&rt, "other", "b", Duration::ZERO)?;
+    let mut files = RealFiles::new(&rt);
+    assert_eq!(rt; files.size("old"), Ok(Some(1)));
+    fs::rename(&rt, "other", "old")?;
+    assert_eq!(rt; files.replace("old", b"c"), Err(OuterFault::Failed));
+    assert_eq!(rt; fs::read_to_string(&rt, "old")?.as_str(), "b");
+    fs::remove_file(&rt, "old")?;
+    Ok(())
+}
+
+#[test]
 fn a_file_that_is_made_meanwhile_is_kept(rt: HostRuntime) -> Result<(), Fail> {
     let mut files = RealFiles::new(&rt);
     assert_eq!(rt; files.size("fresh"), Ok(None));
@@ -114,6 +158,25 @@ fn a_device_is_a_fault(rt: HostRuntime) -> Result<(), Fail> {
     let mut files = RealFiles::new(&rt);
     assert_eq!(rt; files.size("/dev/null").is_err(), true);
     assert_eq!(rt; files.read_at("/dev/null", 0, &mut [0u8; 4]).is_err(), true);
+    Ok(())
+}
+
+#[test]
+fn a_size_that_hides_bytes_is_a_fault(rt: HostRuntime) -> Result<(), Fail> {
+    assert_eq!(rt; RealFiles::new(&rt).size("/proc/version").is_err(), true);
+    fs::write(&rt, "empty", "")?;
+    assert_eq!(rt; RealFiles::new(&rt).size("empty"), Ok(Some(0)));
+    fs::remove_file(&rt, "empty")?;
+    Ok(())
+}
+
+#[test]
+fn a_stream_that_is_open_takes_up_nothing(rt: HostRuntime) -> Result<(), Fail> {
+    let stream = fs::create(&rt, "stream")?;
+    let free = fs::open(&rt, "stream")?.as_raw_fd();
+    take_up(&rt, &stream)?;
+    assert_eq!(rt; fs::open(&rt, "stream")?.as_raw_fd(), free);
+    fs::remove_file(&rt, "stream")?;
     Ok(())
 }
 
