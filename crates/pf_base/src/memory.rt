@@ -91,10 +91,10 @@ impl Model for MemSource {
     ghost Value = { MemorySource };
 
     ghost view = { λ source. record {
-        left = drop source.at source.bytes;
-        given = source.given;
-        cuts = source.cuts;
-        calls = source.schedule;
+      left = drop source.at source.bytes;
+      given = source.given;
+      cuts = source.cuts;
+      calls = source.schedule;
     } };
 
     ghost invariant = { λ source. source.at ≤ length source.bytes };

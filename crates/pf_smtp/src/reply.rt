@@ -158,12 +158,7 @@ impl Reply {
 
     /// Adds the reply as it is sent, control bytes as question marks, with its line end; `host` is the server's name.
     #[tactic(auto, unfolding(crate::specs::Text::text_of))]
-    pub(crate) fn print(
-        &self,
-        alloc: Global,
-        host: &[u8],
-        sent: &mut Bytes,
-    ) -> Result<(), NoMemory>
+    pub(crate) fn print(&self, alloc: Global, host: &[u8], sent: &mut Bytes) -> Result<(), NoMemory>
         ensures { OnOk result (sent.new ≡ sent.old ++ text.text_of host.now self.now) }
     {
         let mut text = Bytes::new(alloc);
@@ -176,11 +171,7 @@ impl Reply {
 /// Adds what the server says first, control bytes as question marks, with its line end; `banner` is what stands behind the code
 /// (postconf(5), smtpd_banner).
 #[tactic(auto, unfolding(crate::specs::Text::greeting_of))]
-pub(crate) fn print_greeting(
-    alloc: Global,
-    banner: &[u8],
-    sent: &mut Bytes,
-) -> Result<(), NoMemory>
+pub(crate) fn print_greeting(alloc: Global, banner: &[u8], sent: &mut Bytes) -> Result<(), NoMemory>
     ensures { OnOk result (sent.new ≡ sent.old ++ text.greeting_of banner.now) }
 {
     let mut text = Bytes::new(alloc);

@@ -123,12 +123,7 @@ impl Standing {
     ghost use Rattle.pf_smtp.specs.Gathering.{AnswersLine, AnswersPiece};
 
     // Answers a line, whose last bytes these are, and has nothing of the next one.
-    fn take_line(
-        &mut self,
-        alloc: Global,
-        line: &[u8],
-        texts: &mut Texts,
-    ) -> Result<(), NoMemory>
+    fn take_line(&mut self, alloc: Global, line: &[u8], texts: &mut Texts) -> Result<(), NoMemory>
         ensures { OnOk result (AnswersLine texts.old texts.new self.old self.new line.now) }
     {
         self.part.keep(line)?;

@@ -44,7 +44,7 @@ module _ (words : ConfWords) (before now : Tree) (input : Input) (mail out log :
       let spoke = subst (λ t. Says (sinks out mail log) (sinks out_now mail log_now) t said) texts says in
       let is = status_is ∙ ap (λ (r : Report). status_of r.status said) reports.report_is in
       let causes = subst (HasCauses (counts_of old) (counts_of new)) (sym is)
-          (said_causes old new (course_status course) said (texts_of file course) refl spoke (course_spoken course) (files_cause file course before now reports.courses.leaves)) in
+      (said_causes old new (course_status course) said (texts_of file course) refl spoke (course_spoken course) (files_cause file course before now reports.courses.leaves)) in
       let out_is = ap (λ (t : Report). t.texts.out) reports.report_is in
       let log_is = ap (λ (t : Report). t.texts.log) reports.report_is in
       record {

@@ -110,7 +110,10 @@ pub(crate) fn run_smtpd<S: Source, O: Sink, M: Sink, J: Sink, F: Files>(
             let (client, budget) = (words.client, words.budget);
             talk_status(talk(alloc, opening, client, budget, input, out, mail, log))
         }
-        Err(FileFault::Refused(refusal)) => status_behind(REFUSED, say_refused(alloc, &refusal, log)),
+        Err(FileFault::Refused(refusal)) => status_behind(
+            REFUSED,
+            say_refused(alloc, &refusal, log),
+        ),
         Err(FileFault::Failed) => status_behind(FILES_FAILED, say_unread(alloc, file, log)),
         Err(FileFault::NoMemory) => NO_MEMORY,
     }

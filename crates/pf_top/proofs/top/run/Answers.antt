@@ -18,7 +18,7 @@ pub returns-in-Ok-None : goal.returns-in-Ok-None
 returns-in-Ok-None g c =
     let read = c.in-Ok-None in
     unformed_left read.ensures.is read.field-0-is (said_usage _ _ _ c.say_usage.result c.status_behind.ensures
-        (record { says = c.say_usage.ensures (g.O.Sink.told c.args.out.now) (g.M.Sink.told c.args.mail.now); input = refl }) refl)
+    (record { says = c.say_usage.ensures (g.O.Sink.told c.args.out.now) (g.M.Sink.told c.args.mail.now); input = refl }) refl)
 
 pub returns-in-Err : goal.returns-in-Err
 returns-in-Err g c = nothing_left _ (objects (g.S.Source.told c.args.input.now) (g.O.Sink.told c.args.out.now) (g.M.Sink.told c.args.mail.now) (g.J.Sink.told c.args.log.now) (g.F.Files.told c.args.files.now))
