@@ -1,5 +1,5 @@
 use pf_base::{
-    Bytes, Cause, ConfFault, Files, List, MemFiles, NoMemory, Pair, ReadFault, Refused, TextFault,
+    Bytes, Cause, ConfFault, Files, List, MemFiles, NoMemory, Pair, ReadFault, TextFault,
     logical_lines, read_all,
 };
 use pf_eval::{PlainEnd, PlainItem, PlainNet, PlainPolicy, judge_plain};
@@ -174,21 +174,5 @@ fn a_list_is_judged(rt: HostRuntime) -> Result<(), Fail> {
         assert_eq!(rt; judge_plain(&policy, client, domain), end, "at {client:x}");
     }
     assert_eq!(rt; PlainNet::new(0, 33).is_none(), true);
-    Ok(())
-}
-
-// A folder with line feeds in its name forges no line of the log.
-#[test]
-fn refusal_is_one_line(rt: HostRuntime) -> Result<(), Fail> {
-    let alloc = rt.alloc();
-    let file = b"x\n1 RCPT <a@b> accept\n/main.cf";
-    let refused = Refused {
-        file: Bytes::from_slice(alloc, file)?,
-        line: 0,
-        cause: Cause::C10,
-        name: Bytes::from_slice(alloc, b"\t\x7f~")?,
-    };
-    let wanted = b"postgate: x?1 RCPT <a@b> accept?/main.cf:0: C10 no such file: ??~\n";
-    assert_eq!(rt; refused.line(alloc)?.as_slice(), wanted.as_slice());
     Ok(())
 }
