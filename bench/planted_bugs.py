@@ -754,7 +754,7 @@ BUGS = [
     ('pf_top', 'value_before_expansion', 'opening', 'text_named',
      'Some(reading) => Ok(reading.text),',
      'Some(reading) => Ok(reading.raw),'),
-    ('pf_top', 'wrong_parameter', 'opening', 'destinations_in',
+    ('pf_top', 'wrong_parameter', 'opening', 'opening_of',
      'items_named(alloc, known, b"mydestination")?',
      'items_named(alloc, known, b"myhostname")?'),
     ('pf_top', 'networks_are_destinations', 'opening', 'networks_in',

@@ -1,21 +1,13 @@
-//! postgate: the words of the process, and the real objects that the top call works on.
+//! postgate: hands the words of the process and the real objects to the top call.
 #![tactic(auto)]
 
-mod plain;
-mod real;
-mod replacement;
-mod streams;
-#[cfg(test)]
-mod tests;
-
 use pf_base::{OuterFault, Sink};
+use pf_real::{FileSink, Reading, RealFiles, Writing, take_up};
 use pf_top::{run, sink_names};
-use real::{FileSink, Reading, RealFiles, Writing};
 use std::alloc::Global;
 use std::env;
 use std::io::ErrorKind;
 use std::process::ExitCode;
-use streams::take_up;
 
 // The statuses that are answered before the top call.
 const USAGE: u8 = 2;

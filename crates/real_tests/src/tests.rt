@@ -1,6 +1,5 @@
-use crate::real::{FileSink, RealFiles, Writing};
-use crate::streams::take_up;
 use pf_base::{Files, OuterFault, Sink};
+use pf_real::{FileSink, RealFiles, Writing, take_up};
 use std::fs::Permissions;
 use std::io::Write;
 use std::os::fd::AsRawFd;

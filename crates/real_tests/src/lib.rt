@@ -1,0 +1,5 @@
+//! Tests of the real objects.
+#![tactic(auto)]
+
+#[cfg(test)]
+mod tests;
