@@ -6,7 +6,7 @@ use Rattle.std.specs.Option.{option_map}
 use Rattle.pf_base.specs.Lines.{without_return}
 use Rattle.pf_base.specs.Logical.{Grouped, Physical, alone, grouped, is_ignored, numbered, physical_lines, starts_with_space, unless_ignored}
 use Rattle.pf_base.specs.declared.logical.Logical.{Logical}
-use Rattle.pf_base.specs.declared.refused.ConfFault.{ConfFault}
+use Rattle.pf_base.specs.declared.refused.Refused.{Refused}
 use Rattle.pf_maincf.specs.Edit.{AreSets, IsEditOf, edited, edited_in, edited_lines, edited_text, is_set, placed, set_at, value_of}
 use Rattle.pf_maincf.specs.Settings.{Conf, conf_of, last_setting}
 use Rattle.pf_maincf.specs.declared.setting.Setting.{Setting}
@@ -111,7 +111,7 @@ plain_value settings name = rw (last_changed plain settings name (λ s is. refl)
   value None = refl
   value (Some s) = refl
 
-law_of : (file text after : List ℕ) (sets : List Setting) (R : Result Conf ConfFault) → AreSets sets → conf_of file text ≡ R
+law_of : (file text after : List ℕ) (sets : List Setting) (R : Result Conf Refused) → AreSets sets → conf_of file text ≡ R
     → edited_in sets text R ≡ Ok after → IsEditOf file text after sets
 law_of file text after sets (Err fault) a read h = cc
 law_of file text after sets (Ok old) a read h =

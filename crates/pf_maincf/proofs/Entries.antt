@@ -3,11 +3,11 @@ use Rattle.std.proofs.Common.{◌≡◌, ℕ, ◌+◌, true, List, [], ◌∷◌
 use Rattle.std.specs.Prelude.{map, take, drop}
 use Rattle.std.specs.List.{position}
 use Rattle.std.specs.Option.{option_map}
-use Rattle.pf_base.specs.Logical.{Grouped, Physical, grouped, outcome, physical_lines, unless_leading}
+use Rattle.pf_base.specs.Logical.{Grouped, Physical, grouped, physical_lines}
 use Rattle.pf_base.specs.Space.{trimmed}
 use Rattle.pf_base.specs.declared.logical.Logical.{Logical}
-use Rattle.pf_base.specs.declared.refused.ConfFault.{ConfFault}
-use Rattle.pf_maincf.specs.Settings.{Conf, conf_of, conf_with, is_name, or_refused, setting_of, settings_of, settings_of_lines}
+use Rattle.pf_base.specs.declared.refused.Refused.{Refused}
+use Rattle.pf_maincf.specs.Settings.{Conf, conf_of, conf_with, is_name, or_refused, setting_of, settings_in, settings_of, unless_continued}
 use Rattle.pf_maincf.specs.declared.setting.Setting.{Setting}
 use Rattle.pf_maincf.proofs.Ends.{either_way}
 
@@ -50,7 +50,7 @@ record IsNext (file : List ℕ) (l : Logical) (ls : List Logical) (settings : Li
   rest : settings_of file ls ≡ Ok behind
   is : first ∷ behind ≡ settings
 
-next_is : (file : List ℕ) (l : Logical) (ls : List Logical) (settings : List Setting) (o : Option Setting) (R : Result (List Setting) ConfFault)
+next_is : (file : List ℕ) (l : Logical) (ls : List Logical) (settings : List Setting) (o : Option Setting) (R : Result (List Setting) Refused)
     → setting_of l ≡ o → settings_of file ls ≡ R → or_refused file l o R ≡ Ok settings → IsNext file l ls settings
 next_is file l ls settings None R a b h = cc
 next_is file l ls settings (Some s) (Err fault) a b h = either_way (is_name s.name) (λ k. let no = rw k at h in cc) (λ k. let no = rw k at h in cc)
@@ -94,13 +94,13 @@ pub record IsRead (file text : List ℕ) (conf : Conf) : Type 0 where
   pub settings : settings_of file (grouped (physical_lines text)).logical ≡ Ok conf.settings
 
 read_by : (file text : List ℕ) (conf : Conf) (g : Grouped) → grouped (physical_lines text) ≡ g
-    → conf_with file (settings_of_lines file (outcome g)) ≡ Ok conf → (g.leading ≡ []) × (settings_of file g.logical ≡ Ok conf.settings)
+    → conf_with file (settings_in file g) ≡ Ok conf → (g.leading ≡ []) × (settings_of file g.logical ≡ Ok conf.settings)
 read_by file text conf g is h = by g.leading refl h where
-  by : (leading : List Physical) → g.leading ≡ leading → conf_with file (settings_of_lines file (unless_leading leading g.logical)) ≡ Ok conf
+  by : (leading : List Physical) → g.leading ≡ leading → conf_with file (unless_continued file leading (settings_of file g.logical)) ≡ Ok conf
       → (leading ≡ []) × (settings_of file g.logical ≡ Ok conf.settings)
   by (line ∷ lines) e h = cc
   by [] e h = (refl, with (settings_of file g.logical) h) where
-    with : (R : Result (List Setting) ConfFault) → conf_with file R ≡ Ok conf → R ≡ Ok conf.settings
+    with : (R : Result (List Setting) Refused) → conf_with file R ≡ Ok conf → R ≡ Ok conf.settings
     with (Err fault) h = cc
     with (Ok settings) h = let e : record { file = file; settings = settings } ≡ conf = cc in ap (λ (c : Conf). Ok c.settings) e
 

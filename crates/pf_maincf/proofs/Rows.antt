@@ -2,11 +2,9 @@
 use Rattle.std.proofs.Common.{◌≡◌, [], ◌∷◌, None, Some, Ok, Err, List, ℕ, true, false, map, refl, codes}
 use Rattle.std.specs.List.{list_all}
 use Rattle.pf_base.specs.declared.logical.Logical.{Logical}
-use Rattle.pf_base.specs.declared.logical.TextFault.TheVariants.{Continuation, NoMemory as TextNoMemory}
 use Rattle.pf_base.specs.declared.refused.Cause.TheVariants.{C1, C2, C3}
-use Rattle.pf_base.specs.declared.refused.ConfFault.TheVariants.{Refused, NoMemory}
 use Rattle.pf_maincf.specs.Edit.{AreSets, Line, blocks_from, differ, edited, edited_by, is_ended, is_set, lines_in, placed, set_line}
-use Rattle.pf_maincf.specs.Settings.{before, conf_of, conf_with, is_name, is_name_byte, last_setting, or_refused, refused, setting_of, settings_of, settings_of_lines}
+use Rattle.pf_maincf.specs.Settings.{before, conf_of, conf_with, is_name, is_name_byte, last_setting, or_refused, refused, setting_of, settings_in, settings_of}
 use Rattle.pf_maincf.specs.declared.setting.Setting.{Setting}
 
 -- two settings, and a line without an equals sign
@@ -56,33 +54,33 @@ bytes_of_names : map is_name_byte (32 ∷ 33 ∷ 126 ∷ 127 ∷
 bytes_of_names = refl
 
 -- refusals
-names_nothing : refused (codes "main.cf") 5 C2 ≡ Refused (record { file = codes "main.cf"; line = 5; cause = C2; name = [] })
+names_nothing : refused (codes "main.cf") 5 C2 ≡ record { file = codes "main.cf"; line = 5; cause = C2; name = [] }
 names_nothing = refl
 
 -- settings before others
 front_first : before (first ∷ []) (Ok (second ∷ [])) ≡ Ok (first ∷ second ∷ [])
 front_first = refl
 
-fault_behind : before (first ∷ []) (Err NoMemory) ≡ Err NoMemory
-fault_behind = refl
+refusal_behind : before (first ∷ []) (Err (refused (codes "main.cf") 5 C2)) ≡ Err (refused (codes "main.cf") 5 C2)
+refusal_behind = refl
 
 -- a setting or its refusal
 setting_before_others : or_refused (codes "main.cf") bare (Some first) (Ok (second ∷ [])) ≡ Ok (first ∷ second ∷ [])
 setting_before_others = refl
 
-setting_before_a_fault : or_refused (codes "main.cf") bare (Some first) (Err NoMemory) ≡ Err NoMemory
-setting_before_a_fault = refl
+setting_before_a_refusal : or_refused (codes "main.cf") bare (Some first) (Err (refused (codes "main.cf") 7 C3)) ≡ Err (refused (codes "main.cf") 7 C3)
+setting_before_a_refusal = refl
 
 refusal_at_the_first_physical_line : or_refused (codes "main.cf") bare None (Ok (second ∷ []))
-    ≡ Err (Refused (record { file = codes "main.cf"; line = 5; cause = C2; name = [] }))
+    ≡ Err (record { file = codes "main.cf"; line = 5; cause = C2; name = [] })
 refusal_at_the_first_physical_line = refl
 
-refusal_before_a_fault : or_refused (codes "main.cf") bare None (Err NoMemory)
-    ≡ Err (Refused (record { file = codes "main.cf"; line = 5; cause = C2; name = [] }))
-refusal_before_a_fault = refl
+refusal_before_a_refusal : or_refused (codes "main.cf") bare None (Err (refused (codes "main.cf") 7 C3))
+    ≡ Err (record { file = codes "main.cf"; line = 5; cause = C2; name = [] })
+refusal_before_a_refusal = refl
 
 bad_name : or_refused (codes "main.cf") bare (Some (record { line = 5; name = []; value = codes "1" })) (Ok (second ∷ []))
-    ≡ Err (Refused (record { file = codes "main.cf"; line = 5; cause = C3; name = [] }))
+    ≡ Err (record { file = codes "main.cf"; line = 5; cause = C3; name = [] })
 bad_name = refl
 
 -- settings of logical lines
@@ -96,34 +94,31 @@ same_in_any_case_twice = refl
 
 first_bare_line : settings_of (codes "main.cf")
     (record { line = 1; last = 1; text = codes "a=1" } ∷ bare ∷ record { line = 7; last = 7; text = codes "c" } ∷ [])
-    ≡ Err (Refused (record { file = codes "main.cf"; line = 5; cause = C2; name = [] }))
+    ≡ Err (record { file = codes "main.cf"; line = 5; cause = C2; name = [] })
 first_bare_line = refl
 
 bad_name_before_a_bare_line : settings_of (codes "main.cf") (record { line = 1; last = 1; text = codes "a b = 1" } ∷ bare ∷ [])
-    ≡ Err (Refused (record { file = codes "main.cf"; line = 1; cause = C3; name = [] }))
+    ≡ Err (record { file = codes "main.cf"; line = 1; cause = C3; name = [] })
 bad_name_before_a_bare_line = refl
 
 bare_line_before_a_bad_name : settings_of (codes "main.cf") (bare ∷ record { line = 7; last = 7; text = codes "= 1" } ∷ [])
-    ≡ Err (Refused (record { file = codes "main.cf"; line = 5; cause = C2; name = [] }))
+    ≡ Err (record { file = codes "main.cf"; line = 5; cause = C2; name = [] })
 bare_line_before_a_bad_name = refl
 
--- settings of lines or their fault
-lines_there : settings_of_lines (codes "main.cf") (Ok (record { line = 1; last = 1; text = codes "a=1" } ∷ [])) ≡ Ok (first ∷ [])
+-- settings of lines that are grouped
+lines_there : settings_in (codes "main.cf") (record { leading = []; logical = record { line = 1; last = 1; text = codes "a=1" } ∷ [] }) ≡ Ok (first ∷ [])
 lines_there = refl
 
-continuation_is_refused : settings_of_lines (codes "main.cf") (Err (Continuation 3))
-    ≡ Err (Refused (record { file = codes "main.cf"; line = 3; cause = C1; name = [] }))
+continuation_is_refused : settings_in (codes "main.cf") (record { leading = record { number = 3; text = codes " a=1" } ∷ []; logical = [] })
+    ≡ Err (record { file = codes "main.cf"; line = 3; cause = C1; name = [] })
 continuation_is_refused = refl
-
-no_memory_for_lines : settings_of_lines (codes "main.cf") (Err TextNoMemory) ≡ Err NoMemory
-no_memory_for_lines = refl
 
 -- settings of a file
 settings_there : conf_with (codes "main.cf") (Ok (first ∷ [])) ≡ Ok (record { file = codes "main.cf"; settings = first ∷ [] })
 settings_there = refl
 
-fault_instead : conf_with (codes "main.cf") (Err NoMemory) ≡ Err NoMemory
-fault_instead = refl
+refusal_instead : conf_with (codes "main.cf") (Err (refused (codes "main.cf") 5 C2)) ≡ Err (refused (codes "main.cf") 5 C2)
+refusal_instead = refl
 
 -- texts
 comments_and_a_continued_line : conf_of (codes "main.cf")
@@ -146,27 +141,27 @@ unfolding conf_of
 empty_file = refl
 
 continuation_of_nothing : conf_of (codes "main.cf") (codes "\n# c\n a = b\n")
-    ≡ Err (Refused (record { file = codes "main.cf"; line = 3; cause = C1; name = [] }))
+    ≡ Err (record { file = codes "main.cf"; line = 3; cause = C1; name = [] })
 unfolding conf_of
 continuation_of_nothing = refl
 
 continuation_before_a_bare_line : conf_of (codes "main.cf") (codes " a\nb\n")
-    ≡ Err (Refused (record { file = codes "main.cf"; line = 1; cause = C1; name = [] }))
+    ≡ Err (record { file = codes "main.cf"; line = 1; cause = C1; name = [] })
 unfolding conf_of
 continuation_before_a_bare_line = refl
 
 first_of_two_bare_lines : conf_of (codes "main.cf") (codes "a = b\n\nc\nd\n")
-    ≡ Err (Refused (record { file = codes "main.cf"; line = 3; cause = C2; name = [] }))
+    ≡ Err (record { file = codes "main.cf"; line = 3; cause = C2; name = [] })
 unfolding conf_of
 first_of_two_bare_lines = refl
 
 no_name_is_refused : conf_of (codes "main.cf") (codes "a = 1\n\n= b\n")
-    ≡ Err (Refused (record { file = codes "main.cf"; line = 3; cause = C3; name = [] }))
+    ≡ Err (record { file = codes "main.cf"; line = 3; cause = C3; name = [] })
 unfolding conf_of
 no_name_is_refused = refl
 
 name_in_two_lines_is_refused : conf_of (codes "main.cf") (codes "a\n b = c\n")
-    ≡ Err (Refused (record { file = codes "main.cf"; line = 1; cause = C3; name = [] }))
+    ≡ Err (record { file = codes "main.cf"; line = 1; cause = C3; name = [] })
 unfolding conf_of
 name_in_two_lines_is_refused = refl
 
@@ -302,6 +297,6 @@ unfolding edited conf_of
 nothing_set = refl
 
 refused_text_is_not_edited : edited (codes "main.cf") (codes "a = 1\nb\n") (set_to (codes "a") (codes "5") ∷ [])
-    ≡ Err (Refused (record { file = codes "main.cf"; line = 2; cause = C2; name = [] }))
+    ≡ Err (record { file = codes "main.cf"; line = 2; cause = C2; name = [] })
 unfolding edited conf_of
 refused_text_is_not_edited = refl

@@ -6,7 +6,7 @@ use Rattle.std.specs.Str.{bytes_eq}
 use Rattle.pf_base.specs.Lines.{lines, rest, without_return}
 use Rattle.pf_base.specs.Logical.{is_ignored, starts_with_space}
 use Rattle.pf_base.specs.Space.{trimmed}
-use Rattle.pf_base.specs.declared.refused.ConfFault.{ConfFault}
+use Rattle.pf_base.specs.declared.refused.Refused.{Refused}
 use Rattle.pf_maincf.specs.Settings.{Conf, conf_of, is_name, last_setting}
 use Rattle.pf_maincf.specs.declared.setting.Setting.{Setting}
 
@@ -137,12 +137,12 @@ abbrev pub edited_text : List Setting → List ℕ → List ℕ
 edited_text sets text = fold with_line (edited_lines sets text) (filter (λ set. set.line == 0) sets)
 
 -- the sets put into the text of a main.cf that was read
-abbrev pub edited_in : List Setting → List ℕ → Result Conf ConfFault → Result (List ℕ) ConfFault
+abbrev pub edited_in : List Setting → List ℕ → Result Conf Refused → Result (List ℕ) Refused
 edited_in sets text (Ok conf) = Ok (edited_text (map (placed conf.settings) sets) text)
-edited_in sets text (Err fault) = Err fault
+edited_in sets text (Err refusal) = Err refusal
 
 -- the text of a main.cf of this name after an edit
-unfoldable pub edited : List ℕ → List ℕ → List Setting → Result (List ℕ) ConfFault
+unfoldable pub edited : List ℕ → List ℕ → List Setting → Result (List ℕ) Refused
 edited file text sets = edited_in sets text (conf_of file text)
 
 -- the value of a name, and the one that it is set to

@@ -1,3 +1,4 @@
 pub mod Edit
 pub mod Editing
+pub mod Faults
 pub mod Settings

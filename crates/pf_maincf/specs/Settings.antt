@@ -3,15 +3,12 @@ use Rattle.std.specs.Prelude.{ℕ, ◌+◌, ◌==◌, ◌++◌, ◌&&◌, ◌||�
 use Rattle.std.specs.List.{find, list_all, position}
 use Rattle.std.specs.Option.{option_map}
 use Rattle.std.specs.Str.{bytes_eq}
-use Rattle.pf_base.specs.Logical.{logical_lines_of}
+use Rattle.pf_base.specs.Logical.{Grouped, Physical, grouped, physical_lines}
 use Rattle.pf_base.specs.Space.{trimmed}
 use Rattle.pf_base.specs.declared.logical.Logical.{Logical}
-use Rattle.pf_base.specs.declared.logical.TextFault.{TextFault}
-use Rattle.pf_base.specs.declared.logical.TextFault.TheVariants.{Continuation, NoMemory as TextNoMemory}
 use Rattle.pf_base.specs.declared.refused.Cause.{Cause}
 use Rattle.pf_base.specs.declared.refused.Cause.TheVariants.{C1, C2, C3}
-use Rattle.pf_base.specs.declared.refused.ConfFault.{ConfFault}
-use Rattle.pf_base.specs.declared.refused.ConfFault.TheVariants.{Refused, NoMemory}
+use Rattle.pf_base.specs.declared.refused.Refused.{Refused}
 use Rattle.pf_maincf.specs.declared.setting.Setting.{Setting}
 
 -- a file's name and its settings in order
@@ -34,39 +31,42 @@ abbrev pub is_name : List ℕ → Bool
 is_name name = nat_lt 0 (length name) && list_all is_name_byte name
 
 -- a refusal that names nothing
-abbrev pub refused : List ℕ → ℕ → Cause → ConfFault
-refused file line cause = Refused (record { file = file; line = line; cause = cause; name = [] })
+abbrev pub refused : List ℕ → ℕ → Cause → Refused
+refused file line cause = record { file = file; line = line; cause = cause; name = [] }
 
 -- settings before others
-abbrev pub before : List Setting → Result (List Setting) ConfFault → Result (List Setting) ConfFault
+abbrev pub before : List Setting → Result (List Setting) Refused → Result (List Setting) Refused
 before front (Ok settings) = Ok (front ++ settings)
-before front (Err fault) = Err fault
+before front (Err refusal) = Err refusal
 
 -- the setting of a line before those behind it, or the refusal of a line without an equals sign or with a bad name
-abbrev pub or_refused : List ℕ → Logical → Option Setting → Result (List Setting) ConfFault → Result (List Setting) ConfFault
+abbrev pub or_refused : List ℕ → Logical → Option Setting → Result (List Setting) Refused → Result (List Setting) Refused
 or_refused file logical None behind = Err (refused file logical.line C2)
 or_refused file logical (Some setting) behind =
     if is_name setting.name then before (setting ∷ []) behind else Err (refused file logical.line C3)
 
 -- the settings of logical lines in order
-abbrev pub settings_of : List ℕ → List Logical → Result (List Setting) ConfFault
+abbrev pub settings_of : List ℕ → List Logical → Result (List Setting) Refused
 settings_of file [] = Ok []
 settings_of file (logical ∷ lines) = or_refused file logical (setting_of logical) (settings_of file lines)
 
--- the settings of a text, or the first of its lines that is refused
-abbrev pub settings_of_lines : List ℕ → Result (List Logical) TextFault → Result (List Setting) ConfFault
-settings_of_lines file (Ok lines) = settings_of file lines
-settings_of_lines file (Err (Continuation line)) = Err (refused file line C1)
-settings_of_lines file (Err TextNoMemory) = Err NoMemory
+-- settings, unless lines before them continue nothing
+abbrev pub unless_continued : List ℕ → List Physical → Result (List Setting) Refused → Result (List Setting) Refused
+unless_continued file [] settings = settings
+unless_continued file (line ∷ lines) settings = Err (refused file line.number C1)
+
+-- the settings of a text whose lines are grouped so, or the first of its lines that is refused
+abbrev pub settings_in : List ℕ → Grouped → Result (List Setting) Refused
+settings_in file g = unless_continued file g.leading (settings_of file g.logical)
 
 -- a main.cf of these settings
-abbrev pub conf_with : List ℕ → Result (List Setting) ConfFault → Result Conf ConfFault
+abbrev pub conf_with : List ℕ → Result (List Setting) Refused → Result Conf Refused
 conf_with file (Ok settings) = Ok (record { file = file; settings = settings })
-conf_with file (Err fault) = Err fault
+conf_with file (Err refusal) = Err refusal
 
 -- a main.cf of this name and text
-unfoldable pub conf_of : List ℕ → List ℕ → Result Conf ConfFault
-conf_of file text = conf_with file (settings_of_lines file (logical_lines_of text))
+unfoldable pub conf_of : List ℕ → List ℕ → Result Conf Refused
+conf_of file text = conf_with file (settings_in file (grouped (physical_lines text)))
 
 -- the last setting of a name
 abbrev pub last_setting : List Setting → List ℕ → Option Setting

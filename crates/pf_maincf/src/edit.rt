@@ -6,6 +6,7 @@ ghost use Rattle.pf_base.specs.Unless.{Unless};
 ghost use Rattle.pf_maincf.specs.Edit as edit;
 ghost use Rattle.pf_maincf.specs.Edit.{AreSets, IsEditOf, edited, set_line, with_line};
 ghost use Rattle.pf_maincf.specs.Editing as editing;
+ghost use Rattle.pf_maincf.specs.Faults.{as_fault};
 
 use crate::maincf::MainCf;
 use crate::setting::Setting;
@@ -182,7 +183,7 @@ impl MainCf {
         sets: &List<Setting>,
     ) -> Result<Bytes, ConfFault>
         requires { AreSets sets.now }
-        ensures is { Unless result ConfFault.NoMemory (λ r. r ≡ edited file.now text.now sets.now) }
+        ensures is { Unless result ConfFault.NoMemory (λ r. r ≡ as_fault (edited file.now text.now sets.now)) }
         ensures values { IfOk result (λ after. IsEditOf file.now text.now after sets.now) }
     {
         let conf = MainCf::read(alloc, file, text)?;

@@ -2,6 +2,7 @@
 ghost use Rattle.std.specs.Prelude.{◌≡◌, ◌≢◌};
 ghost use Rattle.std.specs.Option.{option_copied};
 ghost use Rattle.pf_base.specs.Unless.{Unless};
+ghost use Rattle.pf_maincf.specs.Faults.{as_fault};
 ghost use Rattle.pf_maincf.specs.Settings as settings;
 ghost use Rattle.pf_maincf.specs.Settings.{conf_of, last_setting};
 
@@ -29,7 +30,7 @@ impl Model for MainCf {
 
 // A refusal that names nothing.
 fn refused(alloc: Global, file: &[u8], line: u64, cause: Cause) -> ConfFault
-    ensures { result ≢ ConfFault.NoMemory → result ≡ settings.refused file.now line cause }
+    ensures { result ≢ ConfFault.NoMemory → result ≡ ConfFault.Refused (settings.refused file.now line cause) }
 {
     match Bytes::from_slice(alloc, file) {
         Ok(file) => ConfFault::Refused(Refused {
@@ -44,7 +45,7 @@ fn refused(alloc: Global, file: &[u8], line: u64, cause: Cause) -> ConfFault
 
 // The settings of logical lines in order.
 fn settings_of(alloc: Global, file: &[u8], lines: &[Logical]) -> Result<List<Setting>, ConfFault>
-    ensures { Unless result ConfFault.NoMemory (λ r. r ≡ settings.settings_of file.now lines.now) }
+    ensures { Unless result ConfFault.NoMemory (λ r. r ≡ as_fault (settings.settings_of file.now lines.now)) }
 {
     let mut settings = List::new(alloc);
     for logical in lines {
@@ -69,7 +70,7 @@ impl MainCf {
     /// ignored starts with space, it is refused as C1, else at its first logical line that has no equals sign, as C2, or whose
     /// name is none, as C3.
     pub fn read(alloc: Global, file: &[u8], text: &[u8]) -> Result<MainCf, ConfFault>
-        ensures { Unless result ConfFault.NoMemory (λ r. r ≡ conf_of file.now text.now) }
+        ensures { Unless result ConfFault.NoMemory (λ r. r ≡ as_fault (conf_of file.now text.now)) }
     {
         let lines = match logical_lines(alloc, text) {
             Ok(lines) => lines,

@@ -5,7 +5,6 @@ use Rattle.pf_base.specs.TableTexts.{TableTexts}
 use Rattle.pf_base.specs.Words.{words_of}
 use Rattle.pf_base.specs.declared.refused.Cause.{Cause}
 use Rattle.pf_base.specs.declared.refused.Cause.TheVariants.{C4, C5, C6, C14, C16}
-use Rattle.pf_base.specs.declared.refused.ConfFault.TheVariants as conf_fault
 use Rattle.pf_base.specs.declared.refused.Refused.{Refused}
 use Rattle.pf_base.specs.declared.table_texts.TableText.{TableText}
 use Rattle.pf_catalogue.specs.Catalogue.{Row, catalogue, row}
@@ -131,7 +130,7 @@ a_text : value_in s (codes "<$reject_code>") ≡ Ok (codes "<571>")
 unfolding catalogue text_value parts first_part form_of name_value
 a_text = refl
 
-refused_text : value_in s (codes "${reject_code") ≡ Err (conf_fault.Refused (record { file = codes "main.cf"; line = 0; cause = C5; name = [] }))
+refused_text : value_in s (codes "${reject_code") ≡ Err (record { file = codes "main.cf"; line = 0; cause = C5; name = [] })
 unfolding catalogue text_value parts first_part form_of name_value
 refused_text = refl
 

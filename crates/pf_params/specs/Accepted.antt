@@ -4,8 +4,6 @@ use Rattle.std.specs.Prelude.{ℕ, Bool, true, false, List, [], ◌∷◌, Optio
 use Rattle.std.specs.List.{fold}
 use Rattle.std.specs.Option.{option_map_or}
 use Rattle.pf_base.specs.TableTexts.{TableTexts}
-use Rattle.pf_base.specs.declared.refused.ConfFault.{ConfFault}
-use Rattle.pf_base.specs.declared.refused.ConfFault.TheVariants as conf_fault
 use Rattle.pf_base.specs.declared.refused.Refused.{Refused}
 use Rattle.pf_catalogue.specs.Catalogue.{Row, catalogue, place_of, row_at}
 use Rattle.pf_catalogue.specs.Tables.{tables_of, with_texts}
@@ -38,10 +36,6 @@ refusal_in s = first_refusal s (refused_reading (readings_of s catalogue)) (clas
 abbrev pub unless_refused : Settled → Option Refused → Result Settled Refused
 unless_refused s None = Ok s
 unless_refused s (Some refusal) = Err refusal
-
-abbrev pub as_fault : Result Settled Refused → Result Settled ConfFault
-as_fault (Ok s) = Ok s
-as_fault (Err refusal) = Err (conf_fault.Refused refusal)
 
 -- the settings of a main.cf with those that count after them, or their first refusal
 unfoldable pub accepted : Conf → List Setting → Result Settled Refused

@@ -2,8 +2,7 @@
 use Rattle.std.specs.Prelude.{ℕ, ◌+◌, ◌++◌, Bool, true, false, List, [], Result, Ok, Err, map}
 use Rattle.pf_base.specs.declared.refused.Cause.{Cause}
 use Rattle.pf_base.specs.declared.refused.Cause.TheVariants.{C4, C5, C16}
-use Rattle.pf_base.specs.declared.refused.ConfFault.{ConfFault}
-use Rattle.pf_base.specs.declared.refused.ConfFault.TheVariants.{Refused}
+use Rattle.pf_base.specs.declared.refused.Refused.{Refused}
 use Rattle.pf_expand.specs.Expansion.{Answer}
 use Rattle.pf_expand.specs.Names.{Source, depth_limit, expanded, name_value}
 use Rattle.pf_expand.specs.declared.flaw.Flaw.{Flaw}
@@ -38,16 +37,16 @@ cause_of TooDeep = C4
 cause_of TooLong = C16
 
 -- a refusal, which has no line and names nothing
-abbrev pub refused : List ℕ → Flaw → ConfFault
-refused file flaw = Refused (record { file = file; line = 0; cause = cause_of flaw; name = [] })
+abbrev pub refused : List ℕ → Flaw → Refused
+refused file flaw = record { file = file; line = 0; cause = cause_of flaw; name = [] }
 
 -- a value, or its refusal
-abbrev pub or_refused : List ℕ → Answer → Result (List ℕ) ConfFault
+abbrev pub or_refused : List ℕ → Answer → Result (List ℕ) Refused
 or_refused file (Ok bytes) = Ok bytes
 or_refused file (Err flaw) = Err (refused file flaw)
 
 -- the value of a text
-abbrev pub value_in : Settled → List ℕ → Result (List ℕ) ConfFault
+abbrev pub value_in : Settled → List ℕ → Result (List ℕ) Refused
 value_in settled text = or_refused settled.file (expanded (settled_source settled) text)
 
 -- the value of a name as it stands alone, one level above the names in a text

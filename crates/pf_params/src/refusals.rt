@@ -33,7 +33,7 @@ pub(crate) fn bad_value(kind: Kind) -> Cause
 
 /// A text's refusal, which has no line and names nothing.
 pub(crate) fn text_refused(alloc: Global, file: &Bytes, flaw: Flaw) -> ConfFault
-    ensures { result ≢ ConfFault.NoMemory → result ≡ settled.refused file.now flaw }
+    ensures { result ≢ ConfFault.NoMemory → result ≡ ConfFault.Refused (settled.refused file.now flaw) }
 {
     match file.copy(alloc) {
         Ok(file) => ConfFault::Refused(Refused {

@@ -6,6 +6,7 @@ ghost use Rattle.pf_catalogue.specs.Catalogue.{row_at};
 ghost use Rattle.pf_catalogue.specs.Values.{IsNumberOf, are_items};
 ghost use Rattle.pf_catalogue.specs.declared.kind.Kind.TheVariants as kind;
 ghost use Rattle.pf_catalogue.specs.declared.value.Value.TheVariants as value;
+ghost use Rattle.pf_maincf.specs.Faults.{as_fault};
 ghost use Rattle.pf_params.specs.Accepted as spec;
 ghost use Rattle.pf_params.specs.Parameters as parameters;
 ghost use Rattle.pf_params.specs.Settled as settled;
@@ -86,7 +87,7 @@ impl Settings {
     /// than 100 deep, as C16 where a value is longer than 1,048,576 bytes, as C6 where a value is none of its kind, and as
     /// C14 where a parameter can't be set so (postconf(5)).
     pub fn new(alloc: Global, main: &MainCf, over: &List<Setting>) -> Result<Settings, ConfFault>
-        ensures { Unless result ConfFault.NoMemory (λ r. r ≡ spec.as_fault (spec.accepted main.now over.now)) }
+        ensures { Unless result ConfFault.NoMemory (λ r. r ≡ as_fault (spec.accepted main.now over.now)) }
     {
         match read(alloc, main, over) {
             Err(NoMemory) => Err(ConfFault::NoMemory),
@@ -203,7 +204,7 @@ impl Settings {
     /// not set (postconf(5), main.cf format). Where a dollar sign begins no form it is refused as C5, where names are nested
     /// more than 100 deep as C4, and where a value is longer than 1,048,576 bytes as C16, each with line 0 and no name.
     pub fn expand(&self, alloc: Global, text: &[u8]) -> Result<Bytes, ConfFault>
-        ensures { Unless result ConfFault.NoMemory (λ r. r ≡ settled.value_in self.now text.now) }
+        ensures { Unless result ConfFault.NoMemory (λ r. r ≡ as_fault (settled.value_in self.now text.now)) }
     {
         match self.known.text_value(alloc, text) {
             Err(NoMemory) => Err(ConfFault::NoMemory),

@@ -1,4 +1,5 @@
 pub mod FileLaws
+pub mod LineLaws
 pub mod OrderLaws
 pub mod PresetLaws
 pub mod ReportLaws

@@ -7,7 +7,6 @@ use Rattle.pf_base.specs.Refusal.{cause_text, refusal_line}
 use Rattle.pf_base.specs.Words.{words_of}
 use Rattle.pf_base.specs.declared.pair.Pair.{Pair}
 use Rattle.pf_base.specs.declared.refused.Cause.TheVariants.{C2, C5, C10}
-use Rattle.pf_base.specs.declared.refused.ConfFault.TheVariants.{Refused}
 use Rattle.pf_catalogue.specs.Catalogue.{catalogue}
 use Rattle.pf_maincf.specs.Edit.{edited}
 use Rattle.pf_maincf.specs.Settings.{conf_of}
@@ -102,7 +101,7 @@ abbrev flawed : Settled
 flawed = record site { settings = at_line 1 (codes "a") (codes "$-") ∷ at_line 2 (codes "a") (codes "$b") ∷ at_line 3 (codes "b") (codes "$-") ∷ [] }
 
 first_that_is_refused : map (λ x. lines_of (record words { expanded = x }) flawed (codes "town" ∷ codes "a" ∷ codes "b" ∷ [])) (true ∷ false ∷ [])
-    ≡ Err (Refused (record { file = codes "main.cf"; line = 2; cause = C5; name = codes "a" })) ∷ Ok (codes "a = $b\nb = $-\n") ∷ []
+    ≡ Err (record { file = codes "main.cf"; line = 2; cause = C5; name = codes "a" }) ∷ Ok (codes "a = $b\nb = $-\n") ∷ []
 unfolding catalogue name_value text_value parts first_part form_of
 first_that_is_refused = refl
 
@@ -133,11 +132,11 @@ set_names_of_a_text : file_said file (record words { mode = mode.Set; over = Som
 unfolding printed conf_of setting_of_word accepted reading_of words_of catalogue name_value text_value parts first_part form_of
 set_names_of_a_text = refl
 
-no_settings : file_said file words (Some (codes "a = 1\nb\n")) ≡ Err (Refused (record { file = file; line = 2; cause = C2; name = [] }))
+no_settings : file_said file words (Some (codes "a = 1\nb\n")) ≡ Err (record { file = file; line = 2; cause = C2; name = [] })
 unfolding printed conf_of
 no_settings = refl
 
-absent : file_said file words None ≡ Err (Refused (record { file = file; line = 0; cause = C10; name = file }))
+absent : file_said file words None ≡ Err (record { file = file; line = 0; cause = C10; name = file })
 absent = refl
 
 edited_text : file_said file (record words { mode = mode.Edit; rest = codes "a=2" ∷ codes "c=" ∷ [] }) (Some (codes "a = 1\nb = 1"))
@@ -164,7 +163,7 @@ courses = course.prints (codes "a = 1\n") [] ∷ course.prints [] (codes "w\n") 
 statuses : map course_status courses ≡ 0 ∷ 1 ∷ 0 ∷ 3 ∷ 8 ∷ 8 ∷ 9 ∷ 9 ∷ []
 statuses = refl
 
-statuses_of_answers : map statuses_by (Ok (Printed (codes "a = 1\n") []) ∷ Ok (Printed [] (codes "w\n")) ∷ Ok (Edited []) ∷ Err (Refused (record { file = file; line = 2; cause = C2; name = [] })) ∷ [])
+statuses_of_answers : map statuses_by (Ok (Printed (codes "a = 1\n") []) ∷ Ok (Printed [] (codes "w\n")) ∷ Ok (Edited []) ∷ Err (record { file = file; line = 2; cause = C2; name = [] }) ∷ [])
     ≡ (0 ∷ 9 ∷ []) ∷ (1 ∷ 9 ∷ []) ∷ (0 ∷ 9 ∷ []) ∷ (3 ∷ 9 ∷ []) ∷ []
 statuses_of_answers = refl
 

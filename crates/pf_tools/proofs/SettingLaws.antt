@@ -7,9 +7,10 @@ use Rattle.std.specs.Str.{bytes_eq}
 use Rattle.pf_base.specs.declared.refused.ConfFault.{ConfFault}
 use Rattle.pf_base.specs.declared.refused.Refused.{Refused}
 use Rattle.pf_maincf.proofs.LastSettings.{last_append}
+use Rattle.pf_maincf.specs.Faults.{as_fault}
 use Rattle.pf_maincf.specs.Settings.{Conf, last_setting}
 use Rattle.pf_maincf.specs.declared.setting.Setting.{Setting}
-use Rattle.pf_params.specs.Accepted.{accepted, as_fault, refusal_in, unless_refused}
+use Rattle.pf_params.specs.Accepted.{accepted, refusal_in, unless_refused}
 use Rattle.pf_params.specs.Parameters.{line_of}
 use Rattle.pf_params.specs.Settled.{Settled, line_if, settled}
 use Rattle.pf_tools.specs.Asked.{set_names}

@@ -6,8 +6,7 @@ use Rattle.pf_base.specs.Objects.{Says, Sinks, status_of}
 use Rattle.pf_base.specs.Statuses.{Counts, HasCauses, NoneRose, is_among}
 use Rattle.pf_base.specs.Told.{Tree}
 use Rattle.pf_base.specs.declared.pair.Pair.{Pair}
-use Rattle.pf_base.specs.declared.refused.ConfFault.{ConfFault}
-use Rattle.pf_base.specs.declared.refused.ConfFault.TheVariants as conf
+use Rattle.pf_base.specs.declared.refused.Refused.{Refused}
 use Rattle.pf_base.specs.declared.texts.SinkFault.{SinkFault}
 use Rattle.pf_base.specs.declared.texts.SinkFault.TheVariants as fault
 use Rattle.pf_tools.specs.Course.{Course, IsCourse, Leaves, course_status, printed_status, said_in, texts_of}
@@ -61,11 +60,10 @@ files_cause file course.starves before now left = record { failed = λ is. cc; k
 files_cause file (course.starves_editing text) before now left = record { failed = λ is. cc; kept = λ is. cc }
 
 -- memory may be wanting whatever is said
-pub memory_is_free : (answer : Result Said ConfFault) → is_among (statuses_by answer) 9 ≡ true
+pub memory_is_free : (answer : Result Said Refused) → is_among (statuses_by answer) 9 ≡ true
 memory_is_free (Ok (said.Printed lines warnings)) = by_warnings (λ s. is_among (s ∷ 9 ∷ []) 9 ≡ true) refl refl warnings
 memory_is_free (Ok (said.Edited text)) = refl
-memory_is_free (Err (conf.Refused refusal)) = refl
-memory_is_free (Err conf.NoMemory) = refl
+memory_is_free (Err refusal) = refl
 
 -- where no call failed, the status is that of what is said
 module _ (words : ConfWords) (content : Option (List Pair)) (before now : Counts) (status : ℕ) (causes : HasCauses before now status) where

@@ -8,6 +8,7 @@ use Rattle.pf_expand.specs.Expansion.{Answer, Text, joined, length_limit, parts,
 use Rattle.pf_expand.specs.Forms.{first_part, form_of}
 use Rattle.pf_expand.specs.Names.{Source, depth_limit, domain_in, domain_of, name_value, past_dot, source_value}
 use Rattle.pf_expand.specs.Names.{Source as source}
+use Rattle.pf_maincf.specs.Faults.{as_fault}
 use Rattle.pf_params.specs.Settled as settled
 use Rattle.pf_params.specs.Settled.{Settled, or_refused, settled_source}
 use Rattle.pf_expand.specs.declared.flaw.Flaw.TheVariants.{TooLong}
@@ -76,14 +77,14 @@ module _ (s : Settled) (host : List ℕ) (is : host ≡ codes "myhostname") wher
       )
 
   -- the domain in the value of the name, or the refusal of that value
-  pub domain_there : (value : List ℕ) → Ok value ≡ settled.value_in s (36 ∷ host) → Ok (domain_in value) ≡ or_refused s.file (value_in s (source.domain host))
-  domain_there value there = by_value (name_value (settled_source s) depth_limit host) (there ∙ host_value) where
-    by_value : (x : Answer) → Ok value ≡ or_refused s.file x → ◌≡◌ {A = Result (List ℕ) ConfFault} (Ok (domain_in value)) (or_refused s.file (domain_of x))
+  pub domain_there : (value : List ℕ) → Ok value ≡ as_fault (settled.value_in s (36 ∷ host)) → Ok (domain_in value) ≡ as_fault (or_refused s.file (value_in s (source.domain host)))
+  domain_there value there = by_value (name_value (settled_source s) depth_limit host) (there ∙ ap as_fault host_value) where
+    by_value : (x : Answer) → Ok value ≡ as_fault (or_refused s.file x) → ◌≡◌ {A = Result (List ℕ) ConfFault} (Ok (domain_in value)) (as_fault (or_refused s.file (domain_of x)))
     by_value (Ok bytes) e = let same : value ≡ bytes = cc in ap (λ x. Ok (domain_in x)) same
     by_value (Err flaw) e = cc
 
-  pub domain_refused : (fault : ConfFault) → Err fault ≡ settled.value_in s (36 ∷ host) → Err fault ≡ or_refused s.file (value_in s (source.domain host))
-  domain_refused fault there = by_value (name_value (settled_source s) depth_limit host) (there ∙ host_value) where
-    by_value : (x : Answer) → Err fault ≡ or_refused s.file x → ◌≡◌ {A = Result (List ℕ) ConfFault} (Err fault) (or_refused s.file (domain_of x))
+  pub domain_refused : (fault : ConfFault) → Err fault ≡ as_fault (settled.value_in s (36 ∷ host)) → Err fault ≡ as_fault (or_refused s.file (value_in s (source.domain host)))
+  domain_refused fault there = by_value (name_value (settled_source s) depth_limit host) (there ∙ ap as_fault host_value) where
+    by_value : (x : Answer) → Err fault ≡ as_fault (or_refused s.file x) → ◌≡◌ {A = Result (List ℕ) ConfFault} (Err fault) (as_fault (or_refused s.file (domain_of x)))
     by_value (Ok bytes) e = cc
     by_value (Err flaw) e = e

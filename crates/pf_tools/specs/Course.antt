@@ -7,8 +7,6 @@ use Rattle.pf_base.specs.Printing.{printed_line}
 use Rattle.pf_base.specs.Refusal.{refusal_line}
 use Rattle.pf_base.specs.Told.{Tree, failed_tree, replaced}
 use Rattle.pf_base.specs.declared.pair.Pair.{Pair}
-use Rattle.pf_base.specs.declared.refused.ConfFault.{ConfFault}
-use Rattle.pf_base.specs.declared.refused.ConfFault.TheVariants as fault
 use Rattle.pf_base.specs.declared.refused.Refused.{Refused}
 use Rattle.pf_base.specs.declared.status.TheConstants.{DONE, FILES_FAILED, NO_MEMORY, REFUSED, WARNED}
 use Rattle.pf_base.specs.declared.texts.Texts.{Texts}
@@ -27,7 +25,7 @@ abbrev pub bytes_in : List Pair → List ℕ → Option (List ℕ)
 bytes_in files file = if is_utf8 file then file_of files file else None
 
 -- what is said of main.cf, where the files tell
-abbrev pub said_in : ConfWords → List Pair → Result Said ConfFault
+abbrev pub said_in : ConfWords → List Pair → Result Said Refused
 said_in words files = file_said (conf_name words.folder) words (bytes_in files (conf_name words.folder))
 
 -- a run prints lines and warnings, puts an edited text in the place of the file, or says why the file is refused; or the file can't be read, or
@@ -42,14 +40,14 @@ pub data Course : Type 0 where
   starves_editing : List ℕ → Course
 
 -- where the files tell, this is what is said of main.cf
-abbrev pub IsSaid : ConfWords → Option (List Pair) → Result Said ConfFault → Type 0
+abbrev pub IsSaid : ConfWords → Option (List Pair) → Result Said Refused → Type 0
 IsSaid words content answer = (files : List Pair) → content ≡ Some files → said_in words files ≡ answer
 
 -- a course comes from what is said
 abbrev pub IsCourse : ConfWords → Option (List Pair) → Course → Type 0
 IsCourse words content (prints lines warnings) = IsSaid words content (Ok (said.Printed lines warnings))
 IsCourse words content (edits text) = IsSaid words content (Ok (said.Edited text))
-IsCourse words content (refuses refusal) = IsSaid words content (Err (fault.Refused refusal))
+IsCourse words content (refuses refusal) = IsSaid words content (Err refusal)
 IsCourse words content unread = Unit {0}
 IsCourse words content (unreplaced text) = IsSaid words content (Ok (said.Edited text))
 IsCourse words content starves = Unit {0}

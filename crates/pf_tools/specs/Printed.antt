@@ -2,7 +2,7 @@
 use Rattle.std.specs.Prelude.{ℕ, ◌++◌, List, [], ◌∷◌, Result, Ok, Err, codes, if◌then◌else◌}
 use Rattle.std.specs.List.{flat_map}
 use Rattle.pf_base.specs.Printing.{printed_line}
-use Rattle.pf_base.specs.declared.refused.ConfFault.{ConfFault}
+use Rattle.pf_base.specs.declared.refused.Refused.{Refused}
 use Rattle.pf_params.specs.Settled.{Settled}
 use Rattle.pf_tools.specs.Asked.{is_known, is_shown}
 use Rattle.pf_tools.specs.Values.{value_shown}
@@ -12,9 +12,9 @@ use Rattle.pf_words.specs.declared.postconf.Shape.TheVariants as shape
 
 -- one after the other, unless the first is refused
 infixl 10 ◌>>=◌
-abbrev pub ◌>>=◌ : {A B : Type 0} → Result A ConfFault → (A → Result B ConfFault) → Result B ConfFault
+abbrev pub ◌>>=◌ : {A B : Type 0} → Result A Refused → (A → Result B Refused) → Result B Refused
 Ok x >>= f = f x
-Err fault >>= f = Err fault
+Err refusal >>= f = Err refusal
 
 -- a value with a blank before it; nothing where it is empty
 abbrev pub behind_sign : List ℕ → List ℕ
@@ -28,16 +28,16 @@ line_text shape.Values name value = value
 line_text shape.Names name value = name
 
 -- the line of a name that is shown; of another name nothing
-abbrev pub shown_line : ConfWords → Settled → List ℕ → Result (List ℕ) ConfFault
+abbrev pub shown_line : ConfWords → Settled → List ℕ → Result (List ℕ) Refused
 shown_line words s name = do
   value ← value_shown words s name
   Ok (line_text words.shape name value ++ 10 ∷ [])
 
-abbrev pub line_of : ConfWords → Settled → List ℕ → Result (List ℕ) ConfFault
+abbrev pub line_of : ConfWords → Settled → List ℕ → Result (List ℕ) Refused
 line_of words s name = if is_shown words.mode s name then shown_line words s name else Ok []
 
 -- the lines of names, or the first refusal of one
-abbrev pub lines_of : ConfWords → Settled → List (List ℕ) → Result (List ℕ) ConfFault
+abbrev pub lines_of : ConfWords → Settled → List (List ℕ) → Result (List ℕ) Refused
 lines_of words s [] = Ok []
 lines_of words s (name ∷ names) = do
   line ← line_of words s name

@@ -1,8 +1,7 @@
 -- What the code gathers before it writes. Words of the code's contracts.
 use Rattle.std.specs.Prelude.{◌≡◌, ◌⊎◌, ℕ, List, Result, Ok, Err}
 use Rattle.pf_base.specs.Told.{Tree}
-use Rattle.pf_base.specs.declared.refused.ConfFault.{ConfFault}
-use Rattle.pf_base.specs.declared.refused.ConfFault.TheVariants as conf
+use Rattle.pf_base.specs.declared.refused.Refused.{Refused}
 use Rattle.pf_tools.specs.Course.{Course, Courses, Leaves, conf_name, course_status, texts_of}
 use Rattle.pf_tools.specs.Course.{Course as course}
 use Rattle.pf_tools.specs.declared.file.FileFault.{FileFault}
@@ -11,9 +10,9 @@ use Rattle.pf_tools.specs.declared.report.Report.{Report}
 use Rattle.pf_words.specs.declared.postconf.ConfWords.{ConfWords}
 
 -- an answer of the code is what is said; a failed call on the files and want of memory are free
-abbrev pub Answers : {A : Type 0} → Result A ConfFault → Result A FileFault → Type 0
+abbrev pub Answers : {A : Type 0} → Result A Refused → Result A FileFault → Type 0
 Answers answer (Ok said) = answer ≡ Ok said
-Answers answer (Err (file_fault.Refused refusal)) = answer ≡ Err (conf.Refused refusal)
+Answers answer (Err (file_fault.Refused refusal)) = answer ≡ Err refusal
 Answers answer (Err other) = Unit {0}
 
 -- what is to be written in a course

@@ -3,8 +3,7 @@ use Rattle.std.specs.Prelude.{◌≡◌, ℕ, List, [], ◌∷◌, Some, true, f
 use Rattle.pf_base.specs.Objects.{Objects, Says, status_of}
 use Rattle.pf_base.specs.Statuses.{HasCauses, NoneRose, counts_of, is_among}
 use Rattle.pf_base.specs.declared.pair.Pair.{Pair}
-use Rattle.pf_base.specs.declared.refused.ConfFault.{ConfFault}
-use Rattle.pf_base.specs.declared.refused.ConfFault.TheVariants as fault
+use Rattle.pf_base.specs.declared.refused.Refused.{Refused}
 use Rattle.pf_base.specs.declared.status.TheConstants.{DONE, FILES_FAILED, LOG_FAILED, NO_MEMORY, OUT_FAILED, REFUSED, WARNED}
 use Rattle.pf_base.specs.declared.texts.SinkFault.{SinkFault}
 use Rattle.pf_tools.specs.Course.{Courses, conf_name, course_status, is_done, output_of, printed_status, said_in, texts_of}
@@ -18,11 +17,10 @@ abbrev pub statuses : List ℕ
 statuses = DONE ∷ WARNED ∷ REFUSED ∷ OUT_FAILED ∷ LOG_FAILED ∷ FILES_FAILED ∷ NO_MEMORY ∷ []
 
 -- its statuses by what is said of main.cf, where no call failed
-abbrev pub statuses_by : Result Said ConfFault → List ℕ
+abbrev pub statuses_by : Result Said Refused → List ℕ
 statuses_by (Ok (said.Printed lines warnings)) = printed_status warnings ∷ NO_MEMORY ∷ []
 statuses_by (Ok (said.Edited text)) = DONE ∷ NO_MEMORY ∷ []
-statuses_by (Err (fault.Refused refusal)) = REFUSED ∷ NO_MEMORY ∷ []
-statuses_by (Err fault.NoMemory) = NO_MEMORY ∷ []
+statuses_by (Err refusal) = REFUSED ∷ NO_MEMORY ∷ []
 
 -- words of postconf: the run took a course over the files, and wrote what that has to say, or a sink's fault or want of memory broke the writing
 -- off; an edit that stands in the place of the file says nothing. The status is that of the course, or of what broke the writing off

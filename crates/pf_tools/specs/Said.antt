@@ -4,12 +4,11 @@ use Rattle.std.specs.Option.{option_to_list, unwrap_or}
 use Rattle.pf_base.specs.FileList.{file_limit}
 use Rattle.pf_base.specs.declared.refused.Cause.{Cause}
 use Rattle.pf_base.specs.declared.refused.Cause.TheVariants.{C10, C15}
-use Rattle.pf_base.specs.declared.refused.ConfFault.{ConfFault}
-use Rattle.pf_base.specs.declared.refused.ConfFault.TheVariants.{Refused}
+use Rattle.pf_base.specs.declared.refused.Refused.{Refused}
 use Rattle.pf_maincf.specs.Edit.{edited}
 use Rattle.pf_maincf.specs.Settings.{conf_of}
 use Rattle.pf_maincf.specs.declared.setting.Setting.{Setting}
-use Rattle.pf_params.specs.Accepted.{accepted, as_fault}
+use Rattle.pf_params.specs.Accepted.{accepted}
 use Rattle.pf_params.specs.Settled.{Settled}
 use Rattle.pf_tools.specs.Asked.{asked_names}
 use Rattle.pf_tools.specs.Printed.{lines_of, warnings_of, ◌>>=◌}
@@ -25,7 +24,7 @@ is_edited (Printed lines warnings) = false
 is_edited (Edited text) = true
 
 -- the lines and the warnings of names
-abbrev pub printed_of : ConfWords → Settled → List (List ℕ) → Result Said ConfFault
+abbrev pub printed_of : ConfWords → Settled → List (List ℕ) → Result Said Refused
 printed_of words s names = do
   lines ← lines_of words s names
   Ok (Printed lines (warnings_of s names))
@@ -40,33 +39,33 @@ abbrev pub edits_of : List (List ℕ) → List Setting
 edits_of words = unwrap_or (settings_of_words words) []
 
 -- what is printed of a main.cf of this name and text
-unfoldable pub printed : List ℕ → ConfWords → List ℕ → Result Said ConfFault
+unfoldable pub printed : List ℕ → ConfWords → List ℕ → Result Said Refused
 printed file words text = do
   conf ← conf_of file text
-  s ← as_fault (accepted conf (over_of words.over))
+  s ← accepted conf (over_of words.over)
   printed_of words s (asked_names words s)
 
 -- the text of a main.cf after an edit
-unfoldable pub edited_by : List ℕ → ConfWords → List ℕ → Result Said ConfFault
+unfoldable pub edited_by : List ℕ → ConfWords → List ℕ → Result Said Refused
 edited_by file words text = do
   new ← edited file text (edits_of words.rest)
   Ok (Edited new)
 
 -- what is said of a main.cf that was read
-abbrev pub text_said : List ℕ → ConfWords → List ℕ → Result Said ConfFault
+abbrev pub text_said : List ℕ → ConfWords → List ℕ → Result Said Refused
 text_said file words text = if is_edit words.mode then edited_by file words text else printed file words text
 
 -- the refusal of a whole file, which names it
-abbrev pub file_refused : List ℕ → Cause → ConfFault
-file_refused file cause = Refused (record { file = file; line = 0; cause = cause; name = file })
+abbrev pub file_refused : List ℕ → Cause → Refused
+file_refused file cause = record { file = file; line = 0; cause = cause; name = file }
 
 -- the text of a main.cf of this name with these bytes, if it is there
-abbrev pub conf_text : List ℕ → Option (List ℕ) → Result (List ℕ) ConfFault
+abbrev pub conf_text : List ℕ → Option (List ℕ) → Result (List ℕ) Refused
 conf_text file None = Err (file_refused file C10)
 conf_text file (Some bytes) = if nat_lt file_limit (length bytes) then Err (file_refused file C15) else Ok bytes
 
 -- what is said of it
-abbrev pub file_said : List ℕ → ConfWords → Option (List ℕ) → Result Said ConfFault
+abbrev pub file_said : List ℕ → ConfWords → Option (List ℕ) → Result Said Refused
 file_said file words bytes = do
   text ← conf_text file bytes
   text_said file words text

@@ -1,7 +1,6 @@
 -- The values that are shown of names (postconf(1)). The causes of refusals are postgate's own.
 use Rattle.std.specs.Prelude.{ℕ, Bool, true, false, List, [], Result, Ok, Err, if◌then◌else◌}
-use Rattle.pf_base.specs.declared.refused.ConfFault.{ConfFault}
-use Rattle.pf_base.specs.declared.refused.ConfFault.TheVariants.{Refused}
+use Rattle.pf_base.specs.declared.refused.Refused.{Refused}
 use Rattle.pf_expand.specs.Expansion.{Answer}
 use Rattle.pf_expand.specs.Names.{Source, depth_limit, name_value, source_value}
 use Rattle.pf_expand.specs.Names.{Source as source}
@@ -34,9 +33,9 @@ line_in mode.Defaults s name = 0
 line_in mode s name = line_of s name
 
 -- a value of a name, or the refusal of its setting
-abbrev pub unless_flawed : ConfMode → Settled → List ℕ → Answer → Result (List ℕ) ConfFault
+abbrev pub unless_flawed : ConfMode → Settled → List ℕ → Answer → Result (List ℕ) Refused
 unless_flawed mode s name (Ok value) = Ok value
-unless_flawed mode s name (Err flaw) = Err (Refused (record (refusal_of s name (cause_of flaw)) { line = line_in mode s name }))
+unless_flawed mode s name (Err flaw) = Err (record (refusal_of s name (cause_of flaw)) { line = line_in mode s name })
 
 -- names alone are printed
 abbrev pub is_names : Shape → Bool
@@ -44,7 +43,7 @@ is_names shape.Names = true
 is_names other = false
 
 -- the value that is printed of a name, or its refusal; with -H none is
-abbrev pub value_shown : ConfWords → Settled → List ℕ → Result (List ℕ) ConfFault
+abbrev pub value_shown : ConfWords → Settled → List ℕ → Result (List ℕ) Refused
 value_shown words s name =
     if is_names words.shape then Ok []
     else unless_flawed words.mode s name (shown words.expanded s (source_in words.mode s name))

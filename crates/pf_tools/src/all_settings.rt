@@ -4,7 +4,8 @@ ghost use Rattle.std.specs.List.{fold};
 ghost use Rattle.std.specs.Option.{option_copied, option_map};
 ghost use Rattle.pf_base.specs.Unless.{Unless};
 ghost use Rattle.pf_maincf.specs.Settings.{last_setting};
-ghost use Rattle.pf_params.specs.Accepted.{accepted, as_fault};
+ghost use Rattle.pf_maincf.specs.Faults.{as_fault};
+ghost use Rattle.pf_params.specs.Accepted.{accepted};
 ghost use Rattle.pf_params.specs.Parameters as parameters;
 ghost use Rattle.pf_params.specs.Settled as settled;
 ghost use Rattle.pf_tools.specs.Asked as asked;
@@ -114,7 +115,7 @@ impl AllSettings {
 
     /// The value of a text, or its refusal, which has no line and names nothing.
     pub(crate) fn expand(&self, alloc: Global, text: &[u8]) -> Result<Bytes, ConfFault>
-        ensures { Unless result ConfFault.NoMemory (λ r. r ≡ settled.value_in self.now text.now) }
+        ensures { Unless result ConfFault.NoMemory (λ r. r ≡ as_fault (settled.value_in self.now text.now)) }
     {
         self.settings.expand(alloc, text)
     }

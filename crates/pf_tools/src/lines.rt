@@ -1,6 +1,7 @@
 //! The lines that are printed, and the warnings.
 ghost use Rattle.std.specs.Prelude.{◌≡◌, ◌++◌, IfOk, OnOk};
 ghost use Rattle.pf_base.specs.Unless.{Unless};
+ghost use Rattle.pf_maincf.specs.Faults.{as_fault};
 ghost use Rattle.pf_tools.specs.Printed as spec;
 
 use crate::all_settings::AllSettings;
@@ -45,7 +46,7 @@ fn line_of(
     all: &AllSettings,
     name: &[u8],
 ) -> Result<Bytes, ConfFault>
-    ensures { Unless result ConfFault.NoMemory (λ r. r ≡ spec.line_of words.now all.now name.now) }
+    ensures { Unless result ConfFault.NoMemory (λ r. r ≡ as_fault (spec.line_of words.now all.now name.now)) }
 {
     if !is_shown(words.mode, all, name) {
         return Ok(Bytes::new(alloc));
@@ -67,7 +68,7 @@ pub(crate) fn lines_of(
     all: &AllSettings,
     names: &[Bytes],
 ) -> Result<Bytes, ConfFault>
-    ensures { Unless result ConfFault.NoMemory (λ r. r ≡ spec.lines_of words.now all.now names.now) }
+    ensures { Unless result ConfFault.NoMemory (λ r. r ≡ as_fault (spec.lines_of words.now all.now names.now)) }
 {
     let mut lines = Bytes::new(alloc);
     for name in names {

@@ -1,6 +1,7 @@
 //! What is said of a main.cf.
 ghost use Rattle.std.specs.Prelude.{◌≡◌, true, false, IfOk};
 ghost use Rattle.pf_base.specs.Unless.{Unless};
+ghost use Rattle.pf_maincf.specs.Faults.{as_fault};
 ghost use Rattle.pf_maincf.specs.Edit.{AreSets};
 ghost use Rattle.pf_tools.specs.Asked.{asked_names};
 ghost use Rattle.pf_tools.specs.Said as spec;
@@ -28,7 +29,7 @@ fn printed_of(
     all: &AllSettings,
     names: &[Bytes],
 ) -> Result<Said, ConfFault>
-    ensures is { Unless result ConfFault.NoMemory (λ r. r ≡ spec.printed_of words.now all.now names.now) }
+    ensures is { Unless result ConfFault.NoMemory (λ r. r ≡ as_fault (spec.printed_of words.now all.now names.now)) }
     ensures edited { IfOk result (λ said. spec.is_edited said ≡ false) }
 {
     let lines = lines_of(alloc, words, all, names)?;
@@ -40,7 +41,7 @@ fn printed_of(
 
 // The lines and the warnings of the names that are asked for.
 fn asked(alloc: Global, words: &ConfWords, all: &AllSettings) -> Result<Said, ConfFault>
-    ensures is { Unless result ConfFault.NoMemory (λ r. r ≡ spec.printed_of words.now all.now (asked_names words.now all.now)) }
+    ensures is { Unless result ConfFault.NoMemory (λ r. r ≡ as_fault (spec.printed_of words.now all.now (asked_names words.now all.now))) }
     ensures edited { IfOk result (λ said. spec.is_edited said ≡ false) }
 {
     match words.rest.as_slice() {
@@ -85,7 +86,7 @@ fn edits_of(alloc: Global, words: &[Bytes]) -> Result<List<Setting>, NoMemory>
 #[tactic(auto, unfolding(crate::specs::Said::printed))]
 fn printed(alloc: Global, file: &[u8], words: &ConfWords, text: &[u8]) -> Result<Said, ConfFault>
     requires { is_over words.now.over ≡ true }
-    ensures is { Unless result ConfFault.NoMemory (λ r. r ≡ spec.printed file.now words.now text.now) }
+    ensures is { Unless result ConfFault.NoMemory (λ r. r ≡ as_fault (spec.printed file.now words.now text.now)) }
     ensures edited { IfOk result (λ said. spec.is_edited said ≡ false) }
 {
     let main = MainCf::read(alloc, file, text)?;
@@ -100,7 +101,7 @@ fn printed(alloc: Global, file: &[u8], words: &ConfWords, text: &[u8]) -> Result
 #[tactic(auto, unfolding(crate::specs::Said::edited_by))]
 fn edited_by(alloc: Global, file: &[u8], words: &ConfWords, text: &[u8]) -> Result<Said, ConfFault>
     requires { are_edits words.now.rest ≡ true }
-    ensures is { Unless result ConfFault.NoMemory (λ r. r ≡ spec.edited_by file.now words.now text.now) }
+    ensures is { Unless result ConfFault.NoMemory (λ r. r ≡ as_fault (spec.edited_by file.now words.now text.now)) }
     ensures edited { IfOk result (λ said. spec.is_edited said ≡ true) }
 {
     let Ok(edits) = edits_of(alloc, words.rest.as_slice()) else {
@@ -118,7 +119,7 @@ pub(crate) fn text_said(
     text: &[u8],
 ) -> Result<Said, ConfFault>
     requires { sets_parameters words.now ≡ true }
-    ensures is { Unless result ConfFault.NoMemory (λ r. r ≡ spec.text_said file.now words.now text.now) }
+    ensures is { Unless result ConfFault.NoMemory (λ r. r ≡ as_fault (spec.text_said file.now words.now text.now)) }
     ensures edited { IfOk result (λ said. spec.is_edited said ≡ is_edit words.now.mode) }
 {
     match words.mode {

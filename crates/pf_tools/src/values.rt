@@ -3,6 +3,7 @@ ghost use Rattle.std.specs.Prelude.{◌≡◌, ◌==◌, ◌≢◌, ◌∷◌, c
 ghost use Rattle.std.specs.List.{position};
 ghost use Rattle.std.specs.Option.{option_copied, option_map_or};
 ghost use Rattle.pf_base.specs.Unless.{Unless};
+ghost use Rattle.pf_maincf.specs.Faults.{as_fault};
 ghost use Rattle.pf_expand.specs.Names as names;
 ghost use Rattle.pf_expand.specs.Names.{Source as source};
 ghost use Rattle.pf_params.specs.Presets.{preset_of};
@@ -45,7 +46,7 @@ fn text_with(alloc: Global, name: &[u8]) -> Result<Bytes, NoMemory>
 // The domain in the value of a name.
 fn domain_shown(alloc: Global, all: &AllSettings, host: &[u8]) -> Result<Bytes, ConfFault>
     requires { host.now ≡ codes "myhostname" }
-    ensures { Unless result ConfFault.NoMemory (λ r. r ≡ or_refused all.now.file (spec.value_in all.now (source.domain host.now))) }
+    ensures { Unless result ConfFault.NoMemory (λ r. r ≡ as_fault (or_refused all.now.file (spec.value_in all.now (source.domain host.now)))) }
 {
     let Ok(text) = text_with(alloc, host) else {
         return Err(ConfFault::NoMemory);
@@ -64,7 +65,7 @@ fn text_shown(
     expanded: bool,
     text: &[u8],
 ) -> Result<Bytes, ConfFault>
-    ensures { Unless result ConfFault.NoMemory (λ r. r ≡ or_refused all.now.file (spec.shown expanded all.now (source.text text.now))) }
+    ensures { Unless result ConfFault.NoMemory (λ r. r ≡ as_fault (or_refused all.now.file (spec.shown expanded all.now (source.text text.now)))) }
 {
     if expanded {
         return all.expand(alloc, text);
@@ -82,7 +83,7 @@ fn preset_shown(
     expanded: bool,
     name: &[u8],
 ) -> Result<Bytes, ConfFault>
-    ensures { Unless result ConfFault.NoMemory (λ r. r ≡ or_refused all.now.file (spec.shown expanded all.now (preset_of name.now))) }
+    ensures { Unless result ConfFault.NoMemory (λ r. r ≡ as_fault (or_refused all.now.file (spec.shown expanded all.now (preset_of name.now)))) }
 {
     match param(name) {
         None => text_shown(alloc, all, expanded, b""),
@@ -110,7 +111,7 @@ fn name_shown(
     all: &AllSettings,
     name: &[u8],
 ) -> Result<Bytes, ConfFault>
-    ensures { Unless result ConfFault.NoMemory (λ r. r ≡ or_refused all.now.file (spec.shown words.now.expanded all.now (spec.source_in words.now.mode all.now name.now))) }
+    ensures { Unless result ConfFault.NoMemory (λ r. r ≡ as_fault (or_refused all.now.file (spec.shown words.now.expanded all.now (spec.source_in words.now.mode all.now name.now)))) }
 {
     match counting_text(words.mode, all, name) {
         Some(text) => text_shown(alloc, all, words.expanded, text.as_slice()),
@@ -156,7 +157,7 @@ pub(crate) fn value_shown(
     all: &AllSettings,
     name: &[u8],
 ) -> Result<Bytes, ConfFault>
-    ensures { Unless result ConfFault.NoMemory (λ r. r ≡ spec.value_shown words.now all.now name.now) }
+    ensures { Unless result ConfFault.NoMemory (λ r. r ≡ as_fault (spec.value_shown words.now all.now name.now)) }
 {
     if words.shape == Shape::Names {
         return Ok(Bytes::new(alloc));

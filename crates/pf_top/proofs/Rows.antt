@@ -6,8 +6,7 @@ use Rattle.pf_base.specs.Printing.{printed_line}
 use Rattle.pf_base.specs.Refusal.{cause_text, refusal_line}
 use Rattle.pf_base.specs.Words.{words_of}
 use Rattle.pf_base.specs.declared.refused.Cause.TheVariants.{C2, C5, C10, C14}
-use Rattle.pf_base.specs.declared.refused.ConfFault.{ConfFault}
-use Rattle.pf_base.specs.declared.refused.ConfFault.TheVariants as conf_fault
+use Rattle.pf_base.specs.declared.refused.Refused.{Refused}
 use Rattle.pf_base.specs.declared.texts.SinkFault.TheVariants as sink
 use Rattle.pf_base.specs.declared.texts.Texts.{Texts}
 use Rattle.pf_catalogue.specs.Catalogue.{catalogue}
@@ -148,7 +147,7 @@ causes = refl
 
 -- what a main.cf says
 accepted_main_cf : map (file_opened (codes "main.cf")) (Some text ∷ None ∷ [])
-    ≡ Ok site ∷ Err (conf_fault.Refused (record { file = codes "main.cf"; line = 0; cause = C10; name = codes "main.cf" })) ∷ []
+    ≡ Ok site ∷ Err (record { file = codes "main.cf"; line = 0; cause = C10; name = codes "main.cf" }) ∷ []
 unfolding conf_of settings_refusal parameter_refusal class_of opening_of reading_named reading_of words_of catalogue name_value text_value parts first_part form_of host_of hosts_of nets_of net_of ipv4_of octet_of relay_of
     restriction_of
 accepted_main_cf = refl
@@ -168,8 +167,8 @@ with_its_client : setup_of site 167838211 ≡ record { host = site.host; banner 
 with_its_client = refl
 
 -- the lines of refused texts
-abbrev line_of : Result Opening ConfFault → Option (List ℕ)
-line_of (Err (conf_fault.Refused first)) = Some (refusal_line first)
+abbrev line_of : Result Opening Refused → Option (List ℕ)
+line_of (Err first) = Some (refusal_line first)
 line_of other = None
 
 abbrev said : List ℕ → Option (List ℕ)
@@ -268,5 +267,5 @@ statuses_of_sessions = refl
 statuses_of_courses : map course_status (course.talks site (Ok ended.AtEnd) ∷ course.unread (Ok tt) ∷ course.unread (Err sink.Log) ∷ course.starves ∷ []) ≡ 0 ∷ 8 ∷ 7 ∷ 9 ∷ []
 statuses_of_courses = refl
 
-statuses_of_openings : map statuses_by (Ok site ∷ Err (conf_fault.Refused (record { file = codes "main.cf"; line = 2; cause = C2; name = [] })) ∷ []) ≡ (0 ∷ 10 ∷ 9 ∷ []) ∷ (3 ∷ 9 ∷ []) ∷ []
+statuses_of_openings : map statuses_by (Ok site ∷ Err (record { file = codes "main.cf"; line = 2; cause = C2; name = [] }) ∷ []) ≡ (0 ∷ 10 ∷ 9 ∷ []) ∷ (3 ∷ 9 ∷ []) ∷ []
 statuses_of_openings = refl

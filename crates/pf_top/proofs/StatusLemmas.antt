@@ -9,8 +9,7 @@ use Rattle.pf_base.specs.Causes.{counted}
 use Rattle.pf_base.specs.Objects.{Objects, Streams, log_text, out_text, sink_status, status_of}
 use Rattle.pf_base.specs.Statuses.{HasCauses, NoneRose, counts_of, is_among}
 use Rattle.pf_base.specs.declared.pair.Pair.{Pair}
-use Rattle.pf_base.specs.declared.refused.ConfFault.{ConfFault}
-use Rattle.pf_base.specs.declared.refused.ConfFault.TheVariants as conf
+use Rattle.pf_base.specs.declared.refused.Refused.{Refused}
 use Rattle.pf_base.specs.declared.texts.SinkFault.{SinkFault}
 use Rattle.pf_base.specs.declared.texts.SinkFault.TheVariants as sink
 use Rattle.pf_smtp.specs.Session.{session}
@@ -87,10 +86,9 @@ sink_known sink.Log = refl
 sink_known sink.NoMemory = refl
 
 -- memory may be wanting whatever main.cf says
-memory_is_free : (answer : Result Opening ConfFault) → is_among (statuses_by answer) 9 ≡ true
+memory_is_free : (answer : Result Opening Refused) → is_among (statuses_by answer) 9 ≡ true
 memory_is_free (Ok opening) = refl
-memory_is_free (Err (conf.Refused refusal)) = refl
-memory_is_free (Err conf.NoMemory) = refl
+memory_is_free (Err refusal) = refl
 
 module _ (words : SmtpdWords) (before now : Objects) where
   course_record : (c : Course) → Leaves words before now c → now.streams.sinks.mail.written ≡ before.streams.sinks.mail.written

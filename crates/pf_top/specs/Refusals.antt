@@ -5,8 +5,6 @@ use Rattle.std.specs.Prelude.{ℕ, List, [], Option, None, Some, Result, Ok, Err
 use Rattle.std.specs.List.{find}
 use Rattle.std.specs.Option.{option_map, option_map_or, option_or}
 use Rattle.pf_base.specs.declared.refused.Cause.TheVariants.{C7, C14}
-use Rattle.pf_base.specs.declared.refused.ConfFault.{ConfFault}
-use Rattle.pf_base.specs.declared.refused.ConfFault.TheVariants as fault
 use Rattle.pf_base.specs.declared.refused.Refused.{Refused}
 use Rattle.pf_catalogue.specs.Catalogue.{catalogue}
 use Rattle.pf_maincf.specs.Settings.{conf_of}
@@ -45,17 +43,17 @@ unfoldable pub settings_refusal : Settled → Option Refused
 settings_refusal s = option_or (names_refusal s) (relay_refusal s (items_named s relay_list))
 
 -- what settings say, or their first refusal
-abbrev pub settings_opened : Settled → Result Opening ConfFault
-settings_opened s = option_map_or (λ first. Err (fault.Refused first)) (settings_refusal s) (Ok (opening_of s))
+abbrev pub settings_opened : Settled → Result Opening Refused
+settings_opened s = option_map_or Err (settings_refusal s) (Ok (opening_of s))
 
 -- what the text of a main.cf says, or its first refusal
-abbrev pub text_opened : List ℕ → List ℕ → Result Opening ConfFault
+abbrev pub text_opened : List ℕ → List ℕ → Result Opening Refused
 text_opened file text = do
   conf ← conf_of file text
   settings_opened (settled conf [])
 
 -- what a main.cf says, or its first refusal, which may be that it is absent or above 64 MiB
-abbrev pub file_opened : List ℕ → Option (List ℕ) → Result Opening ConfFault
+abbrev pub file_opened : List ℕ → Option (List ℕ) → Result Opening Refused
 file_opened file bytes = do
   text ← conf_text file bytes
   text_opened file text

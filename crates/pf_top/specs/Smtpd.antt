@@ -5,8 +5,6 @@ use Rattle.pf_base.specs.Refusal.{refusal_line}
 use Rattle.pf_base.specs.Statuses.{HasCauses, NoneRose, counts_of, is_among}
 use Rattle.pf_base.specs.Told.{failed_tree}
 use Rattle.pf_base.specs.declared.pair.Pair.{Pair}
-use Rattle.pf_base.specs.declared.refused.ConfFault.{ConfFault}
-use Rattle.pf_base.specs.declared.refused.ConfFault.TheVariants as conf
 use Rattle.pf_base.specs.declared.refused.Refused.{Refused}
 use Rattle.pf_base.specs.declared.status.TheConstants.{AT_BUDGET, DONE, FILES_FAILED, INPUT_FAILED, LOG_FAILED, MAIL_FAILED, NO_MEMORY, OUT_FAILED, REFUSED}
 use Rattle.pf_base.specs.declared.texts.SinkFault.{SinkFault}
@@ -22,11 +20,11 @@ use Rattle.pf_top.specs.declared.talk.TalkFault.TheVariants as fault
 use Rattle.pf_words.specs.declared.smtpd.SmtpdWords.{SmtpdWords}
 
 -- what the main.cf of these words says, or its first refusal
-abbrev pub opened_in : SmtpdWords → List Pair → Result Opening ConfFault
+abbrev pub opened_in : SmtpdWords → List Pair → Result Opening Refused
 opened_in words files = file_opened (conf_name words.folder) (bytes_in files (conf_name words.folder))
 
 -- where the files tell, main.cf says this
-abbrev pub IsOpened : SmtpdWords → Objects → Result Opening ConfFault → Type 0
+abbrev pub IsOpened : SmtpdWords → Objects → Result Opening Refused → Type 0
 IsOpened words before answer = (files : List Pair) → before.files.content ≡ Some files → opened_in words files ≡ answer
 
 -- a run has a session by what main.cf says, it says why main.cf is refused, or that it can't be read, or memory is wanting before any of these
@@ -47,7 +45,7 @@ Leaves words before now (talks opening result) =
     IsOpened words before (Ok opening) × Kept before.files now.files
     × HasSession (setup_of opening words.client) words.budget before.streams now.streams result
 Leaves words before now (refuses refusal said) =
-    IsOpened words before (Err (conf.Refused refusal)) × Kept before.files now.files
+    IsOpened words before (Err refusal) × Kept before.files now.files
     × SaysLine before.streams now.streams (refusal_line refusal) said
 Leaves words before now (unread said) =
     Kept (failed_tree before.files) now.files
@@ -77,10 +75,9 @@ abbrev pub statuses : List ℕ
 statuses = DONE ∷ AT_BUDGET ∷ REFUSED ∷ INPUT_FAILED ∷ OUT_FAILED ∷ MAIL_FAILED ∷ LOG_FAILED ∷ FILES_FAILED ∷ NO_MEMORY ∷ []
 
 -- its statuses by what main.cf says, where no call failed
-abbrev pub statuses_by : Result Opening ConfFault → List ℕ
+abbrev pub statuses_by : Result Opening Refused → List ℕ
 statuses_by (Ok opening) = DONE ∷ AT_BUDGET ∷ NO_MEMORY ∷ []
-statuses_by (Err (conf.Refused refusal)) = REFUSED ∷ NO_MEMORY ∷ []
-statuses_by (Err conf.NoMemory) = NO_MEMORY ∷ []
+statuses_by (Err refusal) = REFUSED ∷ NO_MEMORY ∷ []
 
 -- words of smtpd
 pub record SmtpdRun (words : SmtpdWords) (before now : Objects) (status : ℕ) : Type 0 where

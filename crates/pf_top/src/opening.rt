@@ -2,6 +2,7 @@
 ghost use Rattle.std.specs.Prelude.{◌≡◌, [], IfOk, codes};
 ghost use Rattle.std.specs.Option.{unwrap_or};
 ghost use Rattle.pf_base.specs.Unless.{Unless};
+ghost use Rattle.pf_maincf.specs.Faults.{as_fault};
 ghost use Rattle.pf_params.specs.Parameters as parameters;
 ghost use Rattle.pf_top.specs.Opening as opening;
 ghost use Rattle.pf_top.specs.Refusals as refusals;
@@ -115,7 +116,7 @@ fn opening_of(alloc: Global, known: &Known) -> Result<Opening, NoMemory>
 
 // What settings say, or their first refusal.
 fn settings_opened(alloc: Global, known: &Known) -> Result<Opening, ConfFault>
-    ensures { Unless result ConfFault.NoMemory (λ r. r ≡ refusals.settings_opened known.now) }
+    ensures { Unless result ConfFault.NoMemory (λ r. r ≡ as_fault (refusals.settings_opened known.now)) }
 {
     let Ok(refusal) = settings_refusal(alloc, known) else {
         return Err(ConfFault::NoMemory);
@@ -131,7 +132,7 @@ fn settings_opened(alloc: Global, known: &Known) -> Result<Opening, ConfFault>
 
 /// What a main.cf of this name and text says, or its first refusal.
 pub(crate) fn text_opened(alloc: Global, file: &[u8], text: &[u8]) -> Result<Opening, ConfFault>
-    ensures { Unless result ConfFault.NoMemory (λ r. r ≡ refusals.text_opened file.now text.now) }
+    ensures { Unless result ConfFault.NoMemory (λ r. r ≡ as_fault (refusals.text_opened file.now text.now)) }
 {
     let conf = MainCf::read(alloc, file, text)?;
     let Ok(known) = Known::new(alloc, &conf, &List::new(alloc)) else {

@@ -1,5 +1,5 @@
 pub mod AddressLemmas
-pub mod BudgetLemmas
 pub mod FoundLemmas
+pub mod NumberLemmas
 pub mod Rows
 pub mod SimpleCommands

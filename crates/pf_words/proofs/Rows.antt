@@ -7,10 +7,10 @@ use Rattle.clap.specs.Words.{fault_of}
 use Rattle.clap.specs.declared.error.kind.ErrorKind.TheVariants as kind
 use Rattle.clap.proofs.OnLiterals.{clap_on_literals}
 use Rattle.pf_maincf.specs.declared.setting.Setting.{Setting}
-use Rattle.pf_words.specs.Address.{ipv4_of, ipv4_of_octets, digit_at, has_digit, has_leading_digit, octet_of, three_digits, ◌>>=◌}
+use Rattle.pf_words.specs.Address.{ipv4_of, ipv4_of_octets, octet_of, ◌>>=◌}
 use Rattle.pf_words.specs.Commands.{bare_app, postconf_app, smtpd_app, with_flag, with_option, with_rest}
 use Rattle.pf_words.specs.Found.{has_flag, rows_in, value_in}
-use Rattle.pf_words.specs.Numbers.{budget_of, is_counting_number}
+use Rattle.pf_words.specs.Numbers.{budget_of, decimal_within, is_decimal}
 use Rattle.pf_words.specs.Postconf.{conf_in, conf_of}
 use Rattle.pf_words.specs.Sets.{setting_of_word, settings_of_words}
 use Rattle.pf_words.specs.Smtpd.{smtpd_in, smtpd_of}
@@ -36,17 +36,12 @@ abbrev said : List ℕ → Option Words
 said line = words_of (words_in line)
 
 -- digits
-last_digit : digit_at (codes "407") 2 ≡ 7
-last_digit = refl
+decimals : map is_decimal (codes "0" ∷ codes "1" ∷ codes "10" ∷ codes "00" ∷ codes "01" ∷ codes "1a" ∷ codes "/" ∷ codes ":" ∷ codes "+1" ∷ [] ∷ [])
+    ≡ true ∷ true ∷ true ∷ false ∷ false ∷ false ∷ false ∷ false ∷ false ∷ false ∷ []
+decimals = refl
 
-bytes_round_the_digits : map (has_digit (codes "/09:")) (0 ∷ 1 ∷ 2 ∷ 3 ∷ 4 ∷ []) ≡ false ∷ true ∷ true ∷ false ∷ false ∷ []
-bytes_round_the_digits = refl
-
-leading_digit : map has_leading_digit (codes "10" ∷ codes "01" ∷ codes "a1" ∷ []) ≡ true ∷ false ∷ false ∷ []
-leading_digit = refl
-
-hundreds_first : three_digits (codes "256") ≡ 256
-hundreds_first = refl
+decimals_within : map (decimal_within 407) (codes "407" ∷ codes "408" ∷ codes "0" ∷ codes "07" ∷ []) ≡ Some 407 ∷ None ∷ Some 0 ∷ None ∷ []
+decimals_within = refl
 
 -- octets
 ends_of_octets : map octet_of (codes "0" ∷ codes "255" ∷ codes "256" ∷ []) ≡ Some 0 ∷ Some 255 ∷ None ∷ []
@@ -86,10 +81,6 @@ unfolding ipv4_of octet_of
 no_addresses = refl
 
 -- budgets
-digits_that_count : map is_counting_number (codes "1" ∷ codes "10" ∷ codes "0" ∷ codes "01" ∷ codes "1a" ∷ codes "+1" ∷ [] ∷ [])
-    ≡ true ∷ true ∷ false ∷ false ∷ false ∷ false ∷ false ∷ []
-digits_that_count = refl
-
 ends_of_budgets : map budget_of (codes "1" ∷ codes "4294967296" ∷ codes "4294967297" ∷ codes "99999999999999999999" ∷ [])
     ≡ Some 1 ∷ Some 4294967296 ∷ None ∷ None ∷ []
 unfolding budget_of

@@ -1,21 +1,30 @@
--- A budget of bytes as it is written. Its form and its ends are postgate's own.
-use Rattle.std.specs.Prelude.{ℕ, ◌==◌, ◌&&◌, Bool, not, nat_le, nat_lt, List, Option, Some, None, length, slice_index, if◌then◌else◌}
+-- Numbers as they are written in words. That they have no sign and no leading zeros, and the greatest budget, are postgate's own.
+use Rattle.std.specs.Prelude.{ℕ, ◌==◌, ◌&&◌, ◌||◌, Bool, not, nat_le, nat_lt, List, Option, Some, None, length, slice_index, if◌then◌else◌}
 use Rattle.std.specs.Char.{is_ascii_digit}
 use Rattle.std.specs.List.{list_all}
+use Rattle.std.specs.Option.{option_and_then}
 use Rattle.std.specs.Str.Parse.{digits_value}
+
+-- decimal digits, of which the first is 0 only where it stands alone
+abbrev pub is_decimal : List ℕ → Bool
+is_decimal text = list_all is_ascii_digit text && (length text == 1 || nat_lt 1 (length text) && not (slice_index text 0 == 48))
+
+-- a number that is at most another
+abbrev pub at_most : ℕ → ℕ → Option ℕ
+at_most most number = if nat_le number most then Some number else None
+
+-- the number that decimal digits write, where it is at most another
+abbrev pub decimal_within : ℕ → List ℕ → Option ℕ
+decimal_within most text = if is_decimal text then at_most most (digits_value 10 text) else None
 
 -- the greatest budget
 abbrev pub greatest_budget : ℕ
 greatest_budget = 4294967296
 
--- decimal digits without a leading zero, so none that write 0
-abbrev pub is_counting_number : List ℕ → Bool
-is_counting_number text = nat_lt 0 (length text) && not (slice_index text 0 == 48) && list_all is_ascii_digit text
+-- a number that is not 0
+abbrev pub at_least_one : ℕ → Option ℕ
+at_least_one number = if nat_lt 0 number then Some number else None
 
--- a number that is at most the greatest budget
-abbrev pub at_most_greatest : ℕ → Option ℕ
-at_most_greatest number = if nat_le number greatest_budget then Some number else None
-
--- the number of decimal digits without sign or leading zero, from 1 to the greatest budget
+-- a budget: from 1 to the greatest
 unfoldable pub budget_of : List ℕ → Option ℕ
-budget_of text = if is_counting_number text then at_most_greatest (digits_value 10 text) else None
+budget_of text = option_and_then at_least_one (decimal_within greatest_budget text)

@@ -1,31 +1,9 @@
 //! IPv4 addresses as they are written.
-ghost use Rattle.std.specs.Prelude.{◌≡◌, ◌<◌, true, [], ◌∷◌, length};
+ghost use Rattle.std.specs.Prelude.{◌≡◌, [], ◌∷◌};
 ghost use Rattle.pf_words.specs.Address as address;
 
+use crate::numbers::decimal_within;
 use pf_base::cut_at;
-
-fn has_digit(text: &[u8], i: usize) -> bool
-    requires { i < length text.now }
-    ensures { result ≡ address.has_digit text.now i }
-{
-    text[i].is_ascii_digit()
-}
-
-fn has_leading_digit(text: &[u8]) -> bool
-    requires { 0 < length text.now }
-    ensures { result ≡ address.has_leading_digit text.now }
-{
-    has_digit(text, 0) && text[0] != b'0'
-}
-
-fn digit_at(text: &[u8], i: usize) -> u8
-    requires within { i < length text.now }
-    requires digit { address.has_digit text.now i ≡ true }
-    ensures value { result ≡ address.digit_at text.now i }
-    ensures small { result < 10 }
-{
-    text[i] - b'0'
-}
 
 /// The decimal number from 0 to 255 without leading zeros that a text writes, one of the four of an address; None where the text is none
 /// (postconf(5), mynetworks; that there are no leading zeros is postgate's own).
@@ -33,21 +11,8 @@ fn digit_at(text: &[u8], i: usize) -> u8
 pub fn octet_of(text: &[u8]) -> Option<u8>
     ensures { result ≡ address.octet_of text.now }
 {
-    if text.len() == 1 && has_digit(text, 0) {
-        return Some(digit_at(text, 0));
-    }
-    if text.len() == 2 && has_leading_digit(text) && has_digit(text, 1) {
-        return Some(10 * digit_at(text, 0) + digit_at(text, 1));
-    }
-    if text.len() == 3 && has_leading_digit(text) && has_digit(text, 1) && has_digit(text, 2) {
-        let value = 100 * u16::from(digit_at(text, 0))
-            + 10 * u16::from(digit_at(text, 1))
-            + u16::from(digit_at(text, 2));
-        if value <= 255 {
-            return Some(value as u8);
-        }
-    }
-    None
+    let octet = decimal_within(text, 255)?;
+    Some(octet as u8)
 }
 
 // The address of four octets, the first one the highest.

@@ -1,5 +1,5 @@
-//! A budget of bytes as it is written.
-ghost use Rattle.std.specs.Prelude.{◌≡◌};
+//! Numbers as they are written in words.
+ghost use Rattle.std.specs.Prelude.{◌≡◌, ◌≤◌, IfSome};
 ghost use Rattle.std.specs.Char.{is_ascii_digit};
 ghost use Rattle.std.specs.List.{list_all};
 ghost use Rattle.pf_words.specs.Numbers as numbers;
@@ -14,32 +14,47 @@ fn has_digits(text: &[u8]) -> bool
 }
 
 // Whether a text is decimal digits without a leading zero.
-fn is_counting_number(text: &[u8]) -> bool
-    ensures { result ≡ numbers.is_counting_number text.now }
+fn is_decimal(text: &[u8]) -> bool
+    ensures { result ≡ numbers.is_decimal text.now }
 {
-    0 < text.len() && text[0] != b'0' && has_digits(text)
+    has_digits(text) && (text.len() == 1 || text.len() > 1 && text[0] != b'0')
 }
 
-fn at_most_greatest(number: u64) -> Option<u64>
-    ensures { result ≡ numbers.at_most_greatest number }
+fn at_most(most: u64, number: u64) -> Option<u64>
+    ensures is { result ≡ numbers.at_most most number }
+    ensures within { IfSome result (λ n. n ≤ most) }
 {
-    if number <= GREATEST_BUDGET {
-        Some(number)
-    } else {
-        None
+    if number <= most { Some(number) } else { None }
+}
+
+/// The number up to `most` that decimal digits without sign or leading zeros write; None where the text is none.
+pub(crate) fn decimal_within(text: &[u8], most: u64) -> Option<u64>
+    ensures is { result ≡ numbers.decimal_within most text.now }
+    ensures within { IfSome result (λ number. number ≤ most) }
+{
+    if !is_decimal(text) {
+        return None;
+    }
+    let Ok(digits) = str::from_utf8(text) else {
+        unreachable!();
+    };
+    match digits.parse::<u64>() {
+        Ok(number) => at_most(most, number),
+        Err(_) => None,
     }
 }
 
-/// The number from 1 to the greatest budget that decimal digits without sign or leading zero write; None where the text is none.
+fn at_least_one(number: u64) -> Option<u64>
+    ensures { result ≡ numbers.at_least_one number }
+{
+    if number > 0 { Some(number) } else { None }
+}
+
+/// The number from 1 to the greatest budget that decimal digits without sign or leading zeros write; None where the text is none.
 #[tactic(auto, unfolding(crate::specs::Numbers::budget_of))]
 pub(crate) fn budget_of(text: &str) -> Option<u64>
     ensures { result ≡ numbers.budget_of text.now }
 {
-    if !is_counting_number(text.as_bytes()) {
-        return None;
-    }
-    match text.parse::<u64>() {
-        Ok(number) => at_most_greatest(number),
-        Err(_) => None,
-    }
+    let number = decimal_within(text.as_bytes(), GREATEST_BUDGET)?;
+    at_least_one(number)
 }

@@ -1,21 +1,22 @@
-use Rattle.std.proofs.Common.{refl, sym, ap}
+use Rattle.std.proofs.Common.{refl}
 use Rattle.std.proofs.lemmas.Result.{err_from_is_err_and}
-use Rattle.pf_maincf.specs.Edit.{edited, edited_in}
+use Rattle.pf_maincf.specs.Edit.{edited}
 use Rattle.pf_maincf.proofs.EditLaws.{edit_sets}
+use Rattle.pf_maincf.proofs.FaultLemmas.{edit_fault, there}
 use Rattle.pf_maincf.proofs.maincf.MainCf.edit.Goals as goal
 
 pub returns-in_err-conf-clause-is : goal.returns-in_err-conf-clause-is
 unfolding edited
 returns-in_err-conf-clause-is c =
     let p = err_from_is_err_and c.from_residual.result c.from_residual.ensures.1 in
-    rw (p.1, p.2) (λ memory. ap (edited_in c.args.sets.now c.args.text.now) (c.in_err-conf.ensures memory))
+    rw (p.1, p.2) (λ memory. edit_fault c.args.sets.now c.args.text.now _ _ (c.in_err-conf.ensures memory))
 
 pub returns-in-Ok-clause-is : goal.returns-in-Ok-clause-is
 unfolding edited
-returns-in-Ok-clause-is c = rw (sym c.in_ok-conf.ensures, ← c.as_slice.ensures, c.in-Ok.ensures)
+returns-in-Ok-clause-is c = rw (there _ _ c.in_ok-conf.ensures, ← c.as_slice.ensures, c.in-Ok.ensures)
 
 pub returns-in-Ok-clause-values : goal.returns-in-Ok-clause-values
 unfolding edited
 returns-in-Ok-clause-values c =
     edit_sets c.args.file.now c.args.text.now c.in-Ok.edited c.args.sets.now c.requires
-    (rw (sym c.in_ok-conf.ensures, ← c.as_slice.ensures, c.in-Ok.ensures) refl)
+    (rw (there _ _ c.in_ok-conf.ensures, ← c.as_slice.ensures, c.in-Ok.ensures) refl)

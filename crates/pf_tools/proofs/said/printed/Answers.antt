@@ -1,0 +1,7 @@
+use Rattle.pf_maincf.proofs.FaultLemmas.{there}
+use Rattle.pf_tools.specs.Said.{printed}
+use Rattle.pf_tools.proofs.said.printed.Goals as goal
+
+pub returns-clause-is : goal.returns-clause-is
+unfolding printed
+returns-clause-is c = rw (there _ _ c.in_ok-main.ensures, there _ _ (rw c.in-Ok.ensures at c.in_ok-all.ensures)) c.asked.ensures.is
