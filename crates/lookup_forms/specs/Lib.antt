@@ -1,7 +1,7 @@
 pub mod Access
 pub mod Classes
+pub mod Contracts
 pub mod Policy
 pub mod Restrictions
 pub mod Senders
 pub mod Tables
-pub mod Trying

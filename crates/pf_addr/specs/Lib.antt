@@ -1,3 +1,3 @@
+pub mod Contracts
 pub mod Grammar
 pub mod Printed
-pub mod Reading

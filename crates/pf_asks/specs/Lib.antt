@@ -1,8 +1,5 @@
-pub mod Causes
+pub mod Contracts
 pub mod Heard
-pub mod Held
-pub mod Led
-pub mod Looking
 pub mod Questions
 pub mod Resolving
 pub mod Tries

@@ -1,9 +1,8 @@
-pub mod Adding
 pub mod Arguments
 pub mod Catalogue
 pub mod Clients
+pub mod Contracts
 pub mod Lists
 pub mod Numbers
-pub mod RowsMeant
 pub mod Tables
 pub mod Values

@@ -1,9 +1,7 @@
+pub mod Contracts
 pub mod Damaged
-pub mod Gathered
 pub mod Hash
 pub mod Held
 pub mod Layout
-pub mod Listed
-pub mod Readable
 pub mod Sound
 pub mod Written

@@ -1,11 +1,4 @@
+pub mod Contracts
 pub mod Expansion
 pub mod Forms
-pub mod FormsMeant
-pub mod Levels
-pub mod Meanings
 pub mod Names
-pub mod Parting
-pub mod Runs
-pub mod RunsMeant
-pub mod Shapes
-pub mod Tokens

@@ -1,4 +1,3 @@
+pub mod Contracts
 pub mod Edit
-pub mod Editing
-pub mod Faults
 pub mod Settings

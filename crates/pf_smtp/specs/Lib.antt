@@ -1,7 +1,5 @@
 pub mod Command
-pub mod Feeding
-pub mod Gathering
-pub mod Gives
+pub mod Contracts
 pub mod Path
 pub mod Session
 pub mod Step

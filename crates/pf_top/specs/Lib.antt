@@ -1,3 +1,4 @@
+pub mod Contracts
 pub mod Nets
 pub mod Opening
 pub mod Profile
@@ -5,5 +6,4 @@ pub mod Refusals
 pub mod Run
 pub mod Smtpd
 pub mod Talk
-pub mod Turns
 pub mod Values

@@ -1,8 +1,8 @@
 pub mod Address
 pub mod Commands
+pub mod Contracts
 pub mod Found
 pub mod Numbers
-pub mod OptionsMeant
 pub mod Postconf
 pub mod Sets
 pub mod Smtpd

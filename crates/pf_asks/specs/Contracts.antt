@@ -1,0 +1,5 @@
+-- Words of contracts, between the code and the definitions.
+pub mod Causes
+pub mod Held
+pub mod Led
+pub mod Looking
