@@ -6,6 +6,7 @@ use Rattle.pf_addr.specs.declared.address.Address.{Address}
 use Rattle.pf_addr.specs.declared.address.Path.TheVariants.{To}
 use Rattle.pf_addr.specs.declared.address.PathRead.{PathRead}
 use Rattle.pf_addr.specs.Grammar.{IsDomain}
+use Rattle.pf_base.specs.Ascii as ascii
 
 -- atext (RFC 5322, 3.2.3), and the dot
 unfoldable pub is_atom_byte : ℕ → Bool
@@ -13,15 +14,16 @@ is_atom_byte b = is_ascii_alphanumeric b || list_any (λ other. other == b) (cod
 
 -- a quote and a backslash stand behind a backslash
 unfoldable pub escaped : ℕ → List ℕ
-escaped b = if b == 34 || b == 92 then 92 ∷ b ∷ [] else b ∷ []
+escaped b = if b == ascii.double_quote || b == ascii.backslash then ascii.backslash ∷ b ∷ [] else b ∷ []
 
 -- a local part, quoted where it is empty or has a byte that is none of an atom or a dot
 unfoldable pub printed_local : List ℕ → List ℕ
-printed_local local = if nat_lt 0 (length local) && list_all is_atom_byte local then local else 34 ∷ flat_map escaped local ++ 34 ∷ []
+printed_local local = if nat_lt 0 (length local) && list_all is_atom_byte local then local
+    else ascii.double_quote ∷ flat_map escaped local ++ ascii.double_quote ∷ []
 
 -- an at sign and the domain, where there is one
 unfoldable pub printed_domain : List ℕ → List ℕ
-printed_domain domain = if nat_lt 0 (length domain) then 64 ∷ domain else []
+printed_domain domain = if nat_lt 0 (length domain) then ascii.at_sign ∷ domain else []
 
 -- an address as it is printed
 unfoldable pub printed : Address → List ℕ

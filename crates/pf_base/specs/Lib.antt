@@ -1,3 +1,4 @@
+pub mod Ascii
 pub mod Braces
 pub mod Contracts
 pub mod FileList

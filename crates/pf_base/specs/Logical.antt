@@ -2,6 +2,7 @@
 -- lines of space alone and lines whose first byte past space is # count for nothing. That they may stand inside a logical line is postgate's own.
 use Rattle.std.specs.Prelude.{ℕ, ◌+◌, ◌++◌, ◌==◌, Bool, true, false, List, [], ◌∷◌, Result, Ok, Err, if◌then◌else◌}
 use Rattle.std.specs.List.{fold}
+use Rattle.pf_base.specs.Ascii as ascii
 use Rattle.pf_base.specs.Lines.{lines, rest, without_return}
 use Rattle.pf_base.specs.Space.{is_space, without_leading_space}
 use Rattle.pf_base.specs.declared.logical.Logical.{Logical}
@@ -25,7 +26,7 @@ physical_lines text = numbered 1 (lines text ++ rest text ∷ [])
 -- nothing is left of the line, or a comment
 abbrev pub is_empty_or_comment : List ℕ → Bool
 is_empty_or_comment [] = true
-is_empty_or_comment (b ∷ bytes) = b == 35
+is_empty_or_comment (b ∷ bytes) = b == ascii.number_sign
 
 -- empty, all space, or a comment
 abbrev pub is_ignored : List ℕ → Bool

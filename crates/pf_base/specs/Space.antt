@@ -2,10 +2,11 @@
 -- and no other byte is postgate's own.
 use Rattle.std.specs.Prelude.{ℕ, ◌-◌, ◌==◌, ◌||◌, Bool, List, length, take, drop}
 use Rattle.std.specs.List.{prefix_len, suffix_len}
+use Rattle.pf_base.specs.Ascii as ascii
 
 -- a blank or a tab
 abbrev pub is_space : ℕ → Bool
-is_space b = b == 32 || b == 9
+is_space b = b == ascii.space || b == ascii.tab
 
 -- a text from its first byte on that is no space
 abbrev pub without_leading_space : List ℕ → List ℕ

@@ -1,6 +1,7 @@
 -- The words of a value (postconf(5), parameters that are lists; DATABASE_README, inline, for braces).
 use Rattle.std.specs.Prelude.{ℕ, ◌==◌, ◌||◌, ◌&&◌, Bool, nat_lt, List, [], ◌∷◌, Option, None, Some, Result, Ok, Err, length, if◌then◌else◌}
 use Rattle.std.specs.List.{filter}
+use Rattle.pf_base.specs.Ascii as ascii
 use Rattle.pf_base.specs.Braces.{lone_brace, open_behind}
 use Rattle.pf_base.specs.Lines.{onto_line}
 use Rattle.pf_base.specs.Space.{is_space}
@@ -9,7 +10,7 @@ use Rattle.pf_base.specs.declared.words.WordsFault.TheVariants.{Unbalanced}
 
 -- space, line feeds and commas part words
 abbrev pub is_separator : ℕ → Bool
-is_separator b = is_space b || b == 10 || b == 44
+is_separator b = is_space b || b == ascii.line_feed || b == ascii.comma
 
 -- a text parted at its separators that stand in no brace, where so many braces are open in front of it
 abbrev pub parted : ℕ → List ℕ → List (List ℕ)

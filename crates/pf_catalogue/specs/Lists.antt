@@ -3,11 +3,12 @@
 use Rattle.std.specs.Prelude.{ℕ, ◌==◌, ◌||◌, ◌&&◌, Bool, false, not, List, [], ◌∷◌, Option, None, Some, codes, if◌then◌else◌}
 use Rattle.std.specs.List.{list_all, list_any}
 use Rattle.std.specs.Str.{bytes_eq}
+use Rattle.pf_base.specs.Ascii as ascii
 
 -- a file's name begins with a slash
 abbrev pub is_file : List ℕ → Bool
 is_file [] = false
-is_file (b ∷ text) = b == 47
+is_file (b ∷ text) = b == ascii.slash
 
 abbrev pub has_no_file : List (List ℕ) → Bool
 has_no_file items = list_all (λ item. not (is_file item)) items
@@ -27,15 +28,15 @@ is_extension_way word =
 -- an item without the exclamation mark that turns it round
 abbrev pub without_not : List ℕ → List ℕ
 without_not [] = []
-without_not (b ∷ text) = if b == 33 then text else b ∷ text
+without_not (b ∷ text) = if b == ascii.exclamation_mark then text else b ∷ text
 
 abbrev pub begins_with_bracket : List ℕ → Bool
 begins_with_bracket [] = false
-begins_with_bracket (b ∷ text) = b == 91
+begins_with_bracket (b ∷ text) = b == ascii.left_bracket
 
 -- a file, or a type, a colon and a name; an IPv6 address has colons too, and stands in brackets
 abbrev pub is_table : List ℕ → Bool
-is_table text = is_file text || (list_any (λ b. b == 58) text && not (begins_with_bracket text))
+is_table text = is_file text || (list_any (λ b. b == ascii.colon) text && not (begins_with_bracket text))
 
 -- the table or file that an item of a list of domains, networks or hosts names
 abbrev pub table_in : List ℕ → Option (List ℕ)

@@ -2,6 +2,7 @@
 use Rattle.std.specs.Prelude.{ℕ, ◌≡◌, ◌==◌, ◌&&◌, ◌||◌, Bool, true, List, Option, Some, None, if◌then◌else◌}
 use Rattle.std.specs.List.{after_last, before_last, list_any}
 use Rattle.std.specs.Option.{option_or}
+use Rattle.pf_base.specs.Ascii as ascii
 use Rattle.pf_base.specs.Names.{same_in_any_case}
 use Rattle.pf_addr.specs.declared.address.Address.{Address}
 use Rattle.pf_class.specs.Standard.{parted, standard, user_at}
@@ -10,7 +11,7 @@ use Rattle.pf_class.specs.declared.resolved.Resolved.{Resolved}
 
 -- user@site within a local part, parted at the last at sign
 unfoldable pub at_at : List ℕ → Option Address
-at_at local = user_at (before_last (λ b. b == 64) local) (after_last (λ b. b == 64) local)
+at_at local = user_at (before_last (λ b. b == ascii.at_sign) local) (after_last (λ b. b == ascii.at_sign) local)
 
 -- the first rule that parts a local part
 unfoldable pub split : Rules → List ℕ → Option Address

@@ -3,12 +3,13 @@
 use Rattle.std.specs.Prelude.{ℕ, ◌-◌, ◌==◌, ◌&&◌, Bool, not, nat_lt, List, ◌∷◌, ◌++◌, Option, Some, None, length, slice_index, take, unwrap_or, if◌then◌else◌}
 use Rattle.std.specs.List.{after_first, after_last, before_first, before_last, list_any}
 use Rattle.std.specs.Option.{option_or}
+use Rattle.pf_base.specs.Ascii as ascii
 use Rattle.pf_base.specs.Names.{same_in_any_case}
 use Rattle.pf_addr.specs.declared.address.Address.{Address}
 use Rattle.pf_class.specs.declared.rules.Rules.{Rules}
 
 abbrev pub has_dot : List ℕ → Bool
-has_dot domain = list_any (λ b. b == 46) domain
+has_dot domain = list_any (λ b. b == ascii.dot) domain
 
 abbrev pub address_of : List ℕ → List ℕ → Address
 address_of local domain = record { local = local; domain = domain }
@@ -19,11 +20,11 @@ user_at user site = if nat_lt 0 (length user) && nat_lt 0 (length site) then Som
 
 -- site!user, parted at the first ! (postconf(5), swap_bangpath)
 unfoldable pub at_bang : List ℕ → Option Address
-at_bang local = user_at (after_first (λ b. b == 33) local) (before_first (λ b. b == 33) local)
+at_bang local = user_at (after_first (λ b. b == ascii.exclamation_mark) local) (before_first (λ b. b == ascii.exclamation_mark) local)
 
 -- user%site, parted at the last % (postconf(5), allow_percent_hack)
 unfoldable pub at_percent : List ℕ → Option Address
-at_percent local = user_at (before_last (λ b. b == 37) local) (after_last (λ b. b == 37) local)
+at_percent local = user_at (before_last (λ b. b == ascii.percent_sign) local) (after_last (λ b. b == ascii.percent_sign) local)
 
 -- what a rule gives, where its switch is on
 abbrev pub under : Bool → Option Address → Option Address
@@ -44,15 +45,15 @@ with_domain rules myorigin address =
 
 -- a domain that is no literal and has no dot
 unfoldable pub is_short : List ℕ → Bool
-is_short domain = nat_lt 0 (length domain) && not (slice_index domain 0 == 91) && not (has_dot domain)
+is_short domain = nat_lt 0 (length domain) && not (slice_index domain 0 == ascii.left_bracket) && not (has_dot domain)
 
 -- domain.$mydomain (postconf(5), append_dot_mydomain)
 unfoldable pub with_mydomain : Rules → List ℕ → List ℕ → List ℕ
-with_mydomain rules mydomain domain = if rules.append_dot_mydomain && is_short domain then domain ++ 46 ∷ mydomain else domain
+with_mydomain rules mydomain domain = if rules.append_dot_mydomain && is_short domain then domain ++ ascii.dot ∷ mydomain else domain
 
 -- one dot at the end is dropped
 unfoldable pub without_closing_dot : List ℕ → List ℕ
-without_closing_dot domain = if slice_index domain (length domain - 1) == 46 then take (length domain - 1) domain else domain
+without_closing_dot domain = if slice_index domain (length domain - 1) == ascii.dot then take (length domain - 1) domain else domain
 
 -- a domain in full
 unfoldable pub full_domain : Rules → List ℕ → List ℕ → List ℕ

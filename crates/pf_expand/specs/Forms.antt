@@ -4,12 +4,13 @@ use Rattle.std.specs.Prelude.{ℕ, ◌+◌, ◌==◌, ◌||◌, ◌&&◌, Bool, 
 use Rattle.std.specs.Char.{is_ascii_alphanumeric}
 use Rattle.std.specs.List.{list_all, position, position_or_len, prefix_len}
 use Rattle.std.specs.Option.{option_and_then, option_map}
+use Rattle.pf_base.specs.Ascii as ascii
 use Rattle.pf_base.specs.Braces.{partner}
 use Rattle.pf_base.specs.Space.{trimmed, without_leading_space}
 
 -- letters, digits and the underscore
 abbrev pub is_name_byte : ℕ → Bool
-is_name_byte b = is_ascii_alphanumeric b || b == 95
+is_name_byte b = is_ascii_alphanumeric b || b == ascii.underscore
 
 -- a part of a text: bytes that stand for themselves, the value of a name, or one of two texts by whether the value of a name is empty
 pub data Part : Type 0 where
@@ -37,12 +38,12 @@ if_alone cut = if length (without_leading_space cut.1) == 0 then Some cut.0 else
 
 abbrev pub brace_content : List ℕ → Option (List ℕ)
 brace_content [] = None
-brace_content (b ∷ text) = if b == 123 then option_and_then if_alone (in_brace text) else None
+brace_content (b ∷ text) = if b == ascii.left_brace then option_and_then if_alone (in_brace text) else None
 
 -- its first byte is an opening brace
 abbrev pub begins_with_brace : List ℕ → Bool
 begins_with_brace [] = false
-begins_with_brace (b ∷ text) = b == 123
+begins_with_brace (b ∷ text) = b == ascii.left_brace
 
 -- one text: a brace's content, or else all of it as it stands
 abbrev pub one_text : List ℕ → Option (List ℕ)
@@ -51,7 +52,7 @@ one_text text = if begins_with_brace (without_leading_space text) then brace_con
 -- behind the first text of two: nothing, or a colon and the second one in a brace
 abbrev pub second_text : List ℕ → Option (List ℕ)
 second_text [] = Some []
-second_text (b ∷ text) = if b == 58 then brace_content (without_leading_space text) else None
+second_text (b ∷ text) = if b == ascii.colon then brace_content (without_leading_space text) else None
 
 -- the texts behind a question mark
 abbrev pub two_braces : List ℕ → List ℕ × List ℕ → Option Part
@@ -73,7 +74,7 @@ if_empty n text = option_map (choice n []) (one_text text)
 abbrev pub behind_name : List ℕ → List ℕ → Option Part
 behind_name n [] = Some (name n)
 behind_name n (b ∷ text) =
-    if b == 63 then if_full n text else if b == 58 then if_empty n text else None
+    if b == ascii.question_mark then if_full n text else if b == ascii.colon then if_empty n text else None
 
 -- the content of ${..}
 abbrev pub with_name : List ℕ × List ℕ → Option Part
@@ -92,7 +93,7 @@ form_before content cut = option_map (before cut.1) (content cut.0)
 
 -- where a parenthesis ends that was opened in front of a text
 abbrev pub in_parenthesis : List ℕ → Option (List ℕ × List ℕ)
-in_parenthesis text = option_map (λ n. (take n text, drop (n + 1) text)) (position (λ b. b == 41) text)
+in_parenthesis text = option_map (λ n. (take n text, drop (n + 1) text)) (position (λ b. b == ascii.right_parenthesis) text)
 
 -- ${..}, $(..) and $name, without the dollar sign and the opening brace or parenthesis, and the text behind
 abbrev pub with_brace : List ℕ → Option (Part × List ℕ)
@@ -108,18 +109,18 @@ with_name_alone text = option_map (λ cut. (name cut.0, cut.1)) (name_before tex
 unfoldable pub form_of : List ℕ → Option (Part × List ℕ)
 form_of [] = None
 form_of (b ∷ text) =
-    if b == 36 then Some (literal (36 ∷ []), text)
-    else if b == 123 then with_brace text
-    else if b == 40 then with_parenthesis text
+    if b == ascii.dollar_sign then Some (literal (ascii.dollar_sign ∷ []), text)
+    else if b == ascii.left_brace then with_brace text
+    else if b == ascii.left_parenthesis then with_parenthesis text
     else with_name_alone (b ∷ text)
 
 -- how many bytes stand before the first dollar sign
 abbrev pub plain_length : List ℕ → ℕ
-plain_length text = position_or_len (λ b. b == 36) text
+plain_length text = position_or_len (λ b. b == ascii.dollar_sign) text
 
 -- the first part of a text, and the text behind it; None where a dollar sign begins no form
 unfoldable pub first_part : List ℕ → Option (Part × List ℕ)
 first_part [] = None
 first_part (b ∷ text) =
-    if b == 36 then form_of text
+    if b == ascii.dollar_sign then form_of text
     else Some (literal (take (plain_length (b ∷ text)) (b ∷ text)), drop (plain_length (b ∷ text)) (b ∷ text))

@@ -3,6 +3,7 @@
 use Rattle.std.specs.Prelude.{ℕ, zero, suc, List, Option, None, Some, Ok, Err, codes, drop, ◌+◌, ◌==◌, if◌then◌else◌}
 use Rattle.std.specs.List.{position}
 use Rattle.std.specs.Str.{bytes_eq}
+use Rattle.pf_base.specs.Ascii as ascii
 use Rattle.pf_expand.specs.Expansion.{Answer, text_value}
 use Rattle.pf_expand.specs.declared.flaw.Flaw.TheVariants.{TooDeep}
 
@@ -21,7 +22,7 @@ past_dot host None = codes "localdomain"
 past_dot host (Some place) = drop (place + 1) host
 
 abbrev pub domain_in : List ℕ → List ℕ
-domain_in host = past_dot host (position (λ b. b == 46) host)
+domain_in host = past_dot host (position (λ b. b == ascii.dot) host)
 
 abbrev pub domain_of : Answer → Answer
 domain_of (Ok host) = Ok (domain_in host)

@@ -3,6 +3,7 @@ use Rattle.std.specs.Prelude.{◌≡◌, ℕ, ◌+◌, ◌-◌, ◌==◌, ◌++�
 use Rattle.std.specs.List.{find, flat_map, fold, list_all, list_any}
 use Rattle.std.specs.Option.{option_map, option_or}
 use Rattle.std.specs.Str.{bytes_eq}
+use Rattle.pf_base.specs.Ascii as ascii
 use Rattle.pf_base.specs.Lines.{lines, rest, without_return}
 use Rattle.pf_base.specs.Logical.{is_ignored, starts_with_space}
 use Rattle.pf_base.specs.Space.{trimmed}
@@ -12,18 +13,18 @@ use Rattle.pf_maincf.specs.declared.setting.Setting.{Setting}
 
 -- its first byte is a number sign
 abbrev pub begins_comment : List ℕ → Bool
-begins_comment name = slice_index name 0 == 35
+begins_comment name = slice_index name 0 == ascii.number_sign
 
 -- its last byte is a carriage return
 abbrev pub ends_in_return : List ℕ → Bool
-ends_in_return value = slice_index value (length value - 1) == 13
+ends_in_return value = slice_index value (length value - 1) == ascii.carriage_return
 
 -- what one line can say: a name that holds no equals sign and begins no comment, and a value without space at its ends, in one line
 -- that ends in no carriage return
 abbrev pub is_set : Setting → Bool
 is_set set =
-    is_name set.name && not (list_any (λ b. b == 61) set.name) && not (begins_comment set.name)
-    && bytes_eq (trimmed set.value) set.value && not (list_any (λ b. b == 10) set.value)
+    is_name set.name && not (list_any (λ b. b == ascii.equals_sign) set.name) && not (begins_comment set.name)
+    && bytes_eq (trimmed set.value) set.value && not (list_any (λ b. b == ascii.line_feed) set.value)
     && not (ends_in_return set.value)
 
 -- no name comes twice
@@ -46,7 +47,7 @@ pub record AreSets (sets : List Setting) : Type 0 where
 
 -- the line that sets a name, with its line feed; the blank behind the equals sign stands before an empty value too
 abbrev pub set_line : Setting → List ℕ
-set_line set = set.name ++ codes " = " ++ set.value ++ 10 ∷ []
+set_line set = set.name ++ codes " = " ++ set.value ++ ascii.line_feed ∷ []
 
 -- the number of the line at which a setting begins, 0 where there is none
 abbrev pub line_of : Option Setting → ℕ
@@ -64,7 +65,7 @@ pub record Line : Type 0 where
 
 -- the physical lines of a text: one ends at a line feed or at the end of the text
 abbrev pub lines_in : List ℕ → List Line
-lines_in text = map (λ line. record { text = line; feed = 10 ∷ [] }) (lines text) ++ record { text = rest text; feed = [] } ∷ []
+lines_in text = map (λ line. record { text = line; feed = ascii.line_feed ∷ [] }) (lines text) ++ record { text = rest text; feed = [] } ∷ []
 
 -- a line as it stands in the text
 abbrev pub standing : Line → List ℕ
@@ -126,7 +127,7 @@ is_ended (b ∷ bytes) = length (rest (b ∷ bytes)) == 0
 
 -- a line feed, where a text does not end in one, the empty text too
 abbrev pub feed_behind : List ℕ → List ℕ
-feed_behind text = if is_ended text then [] else 10 ∷ []
+feed_behind text = if is_ended text then [] else ascii.line_feed ∷ []
 
 -- a text with the line of a set as its last line
 abbrev pub with_line : List ℕ → Setting → List ℕ

@@ -3,6 +3,7 @@ use Rattle.std.specs.Prelude.{ℕ, ◌+◌, ◌==◌, ◌++◌, ◌&&◌, ◌||�
 use Rattle.std.specs.List.{find, list_all, position}
 use Rattle.std.specs.Option.{option_map}
 use Rattle.std.specs.Str.{bytes_eq}
+use Rattle.pf_base.specs.Ascii as ascii
 use Rattle.pf_base.specs.Logical.{Grouped, Physical, grouped, physical_lines}
 use Rattle.pf_base.specs.Space.{trimmed}
 use Rattle.pf_base.specs.declared.logical.Logical.{Logical}
@@ -20,11 +21,12 @@ pub record Conf : Type 0 where
 abbrev pub setting_of : Logical → Option Setting
 setting_of logical =
     option_map (λ i. record { line = logical.line; name = trimmed (take i logical.text); value = trimmed (drop (i + 1) logical.text) })
-    (position (λ b. b == 61) logical.text)
+    (position (λ b. b == ascii.equals_sign) logical.text)
 
 -- a printing byte that is no blank, and none of those that a value writes names with: dollar sign, braces and parentheses
 abbrev pub is_name_byte : ℕ → Bool
-is_name_byte b = nat_le 33 b && nat_le b 126 && not (b == 36 || b == 40 || b == 41 || b == 123 || b == 125)
+is_name_byte b = nat_le 33 b && nat_le b 126 && not (b == ascii.dollar_sign || b == ascii.left_parenthesis || b == ascii.right_parenthesis
+    || b == ascii.left_brace || b == ascii.right_brace)
 
 -- a parameter's name: which bytes it may hold is postgate's own
 abbrev pub is_name : List ℕ → Bool

@@ -3,6 +3,7 @@
 use Rattle.std.specs.Prelude.{ℕ, ◌++◌, List, [], ◌∷◌, codes}
 use Rattle.std.specs.Fmt.{decimal}
 use Rattle.std.specs.List.{flat_map}
+use Rattle.pf_base.specs.Ascii as ascii
 use Rattle.pf_base.specs.Printing.{printed, printed_line}
 use Rattle.pf_smtp.specs.declared.path.Address.{Address}
 use Rattle.pf_smtp.specs.declared.entry.Entry.{Entry}
@@ -27,7 +28,7 @@ joined parts = flat_map (λ part. part) parts
 
 -- RFC 5321, 2.3.8: a reply line ends by CR LF
 abbrev pub crlf : List ℕ
-crlf = 13 ∷ 10 ∷ []
+crlf = ascii.carriage_return ∷ ascii.line_feed ∷ []
 
 -- to a line that is no command
 unfoldable pub line_text : LineReply → List ℕ

@@ -1,6 +1,7 @@
 -- What postconf prints and what it warns of (postconf(1)). How a warning is printed is postgate's own.
 use Rattle.std.specs.Prelude.{ℕ, ◌++◌, List, [], ◌∷◌, Result, Ok, Err, codes, if◌then◌else◌}
 use Rattle.std.specs.List.{flat_map}
+use Rattle.pf_base.specs.Ascii as ascii
 use Rattle.pf_base.specs.Printing.{printed_line}
 use Rattle.pf_base.specs.declared.refused.Refused.{Refused}
 use Rattle.pf_params.specs.Settled.{Settled}
@@ -19,7 +20,7 @@ Err refusal >>= f = Err refusal
 -- a value with a blank before it; nothing where it is empty
 abbrev pub behind_sign : List ℕ → List ℕ
 behind_sign [] = []
-behind_sign (b ∷ bytes) = 32 ∷ b ∷ bytes
+behind_sign (b ∷ bytes) = ascii.space ∷ b ∷ bytes
 
 -- what stands in a line: name and value, the value alone, or the name alone; an empty value has no blank before it
 abbrev pub line_text : Shape → List ℕ → List ℕ → List ℕ
@@ -31,7 +32,7 @@ line_text shape.Names name value = name
 abbrev pub shown_line : ConfWords → Settled → List ℕ → Result (List ℕ) Refused
 shown_line words s name = do
   value ← value_shown words s name
-  Ok (line_text words.shape name value ++ 10 ∷ [])
+  Ok (line_text words.shape name value ++ ascii.line_feed ∷ [])
 
 abbrev pub line_of : ConfWords → Settled → List ℕ → Result (List ℕ) Refused
 line_of words s name = if is_shown words.mode s name then shown_line words s name else Ok []

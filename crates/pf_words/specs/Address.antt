@@ -2,6 +2,7 @@
 use Rattle.std.specs.Prelude.{ℕ, ◌+◌, ◌*◌, ◌==◌, List, [], ◌∷◌, Option, Some, None}
 use Rattle.std.specs.List.{slice_split}
 use Rattle.std.specs.Option.{option_and_then}
+use Rattle.pf_base.specs.Ascii as ascii
 use Rattle.pf_words.specs.Numbers.{decimal_within}
 
 -- a decimal number from 0 to 255
@@ -25,4 +26,4 @@ ipv4_of_octets parts = None
 
 -- an address: four octets parted by dots
 unfoldable pub ipv4_of : List ℕ → Option ℕ
-ipv4_of text = ipv4_of_octets (slice_split (λ b. b == 46) text)
+ipv4_of text = ipv4_of_octets (slice_split (λ b. b == ascii.dot) text)

@@ -4,10 +4,11 @@ use Rattle.std.specs.Char.{is_ascii_digit}
 use Rattle.std.specs.List.{list_all}
 use Rattle.std.specs.Option.{option_and_then}
 use Rattle.std.specs.Str.Parse.{digits_value}
+use Rattle.pf_base.specs.Ascii as ascii
 
 -- decimal digits, of which the first is 0 only where it stands alone
 abbrev pub is_decimal : List ℕ → Bool
-is_decimal text = list_all is_ascii_digit text && (length text == 1 || nat_lt 1 (length text) && not (slice_index text 0 == 48))
+is_decimal text = list_all is_ascii_digit text && (length text == 1 || nat_lt 1 (length text) && not (slice_index text 0 == ascii.digit_zero))
 
 -- a number that is at most another
 abbrev pub at_most : ℕ → ℕ → Option ℕ

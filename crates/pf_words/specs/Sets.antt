@@ -2,6 +2,7 @@
 use Rattle.std.specs.Prelude.{ℕ, ◌+◌, ◌==◌, List, [], ◌∷◌, Option, Some, None, take, drop, if◌then◌else◌}
 use Rattle.std.specs.List.{position}
 use Rattle.std.specs.Option.{option_and_then, option_map}
+use Rattle.pf_base.specs.Ascii as ascii
 use Rattle.pf_maincf.specs.Edit.{are_sets, is_set}
 use Rattle.pf_maincf.specs.declared.setting.Setting.{Setting}
 
@@ -15,7 +16,7 @@ where_set set = if is_set set then Some set else None
 
 -- the setting of a word that is parted at its first equals sign, where an edit can write it
 unfoldable pub setting_of_word : List ℕ → Option Setting
-setting_of_word word = option_and_then (λ place. where_set (setting_at word place)) (position (λ b. b == 61) word)
+setting_of_word word = option_and_then (λ place. where_set (setting_at word place)) (position (λ b. b == ascii.equals_sign) word)
 
 -- what each word is, where each is something
 abbrev pub all_of : {A : Type 0} → (List ℕ → Option A) → List (List ℕ) → Option (List A)

@@ -2,6 +2,7 @@
 use Rattle.std.specs.Prelude.{ℕ, ◌+◌, ◌-◌, ◌==◌, ◌&&◌, Bool, true, false, not, nat_lt, nat_le, List, [], ◌∷◌, Option, Some, None, length, take, drop, slice_index, if◌then◌else◌}
 use Rattle.std.specs.List.{before_first, prefix_len, take_while}
 use Rattle.std.specs.Option.{option_map}
+use Rattle.pf_base.specs.Ascii as ascii
 use Rattle.pf_base.specs.Space.{is_space}
 use Rattle.pf_addr.specs.Grammar.{is_end, is_literal_byte, is_name_byte, is_plain_byte, is_route}
 use Rattle.pf_addr.specs.declared.address.Address.{Address}
@@ -13,17 +14,17 @@ use Rattle.pf_addr.specs.declared.mailbox.Mailbox.{Mailbox}
 abbrev pub closing_quote : Bool → List ℕ → Option ℕ
 closing_quote taken [] = None
 closing_quote taken (b ∷ text) =
-    if not taken && b == 34 then Some 0 else option_map (λ n. n + 1) (closing_quote (not taken && b == 92) text)
+    if not taken && b == ascii.double_quote then Some 0 else option_map (λ n. n + 1) (closing_quote (not taken && b == ascii.backslash) text)
 
 -- what stands in a quoted string, without its backslashes
 abbrev pub unquoted : Bool → List ℕ → List ℕ
 unquoted taken [] = []
-unquoted taken (b ∷ text) = if not taken && b == 92 then unquoted true text else b ∷ unquoted false text
+unquoted taken (b ∷ text) = if not taken && b == ascii.backslash then unquoted true text else b ∷ unquoted false text
 
 -- the place behind the last at sign
 abbrev pub behind_at : List ℕ → ℕ
 behind_at [] = 0
-behind_at (b ∷ text) = if behind_at text == 0 then (if b == 64 then 1 else 0) else behind_at text + 1
+behind_at (b ∷ text) = if behind_at text == 0 then (if b == ascii.at_sign then 1 else 0) else behind_at text + 1
 
 abbrev pub plain_len_of : ℕ → ℕ → ℕ
 plain_len_of end at = if at == 0 then end else at - 1
@@ -38,19 +39,20 @@ quoted_len_of (Some n) = n + 2
 
 -- a local part
 unfoldable pub local_len : List ℕ → ℕ
-local_len text = if slice_index text 0 == 34 then quoted_len_of (closing_quote false (drop 1 text)) else plain_len text
+local_len text = if slice_index text 0 == ascii.double_quote then quoted_len_of (closing_quote false (drop 1 text)) else plain_len text
 
 -- what a local part means that is spelled so
 unfoldable pub local_of : List ℕ → List ℕ
-local_of spelled = if slice_index spelled 0 == 34 then unquoted false (take (length spelled - 2) (drop 1 spelled)) else spelled
+local_of spelled = if slice_index spelled 0 == ascii.double_quote then unquoted false (take (length spelled - 2) (drop 1 spelled)) else spelled
 
 abbrev pub literal_len_of : List ℕ → ℕ → ℕ
-literal_len_of inside n = if slice_index inside n == 93 then n + 2 else 0
+literal_len_of inside n = if slice_index inside n == ascii.right_bracket then n + 2 else 0
 
 -- a literal, or a name
 abbrev pub unlimited_len : List ℕ → ℕ
 unlimited_len text =
-    if slice_index text 0 == 91 then literal_len_of (drop 1 text) (prefix_len is_literal_byte (drop 1 text)) else prefix_len is_name_byte text
+    if slice_index text 0 == ascii.left_bracket then literal_len_of (drop 1 text) (prefix_len is_literal_byte (drop 1 text))
+    else prefix_len is_name_byte text
 
 abbrev pub within_limit : ℕ → ℕ
 within_limit n = if nat_le n 255 then n else 0
@@ -65,7 +67,8 @@ with_domain local domain = if domain == 0 then None else Some (record { local = 
 abbrev pub mailbox_with : List ℕ → ℕ → Option Mailbox
 mailbox_with text local =
     if local == 0 then None
-    else (if slice_index text local == 64 then with_domain local (domain_len (drop (local + 1) text)) else Some (record { local = local; domain = 0 }))
+    else (if slice_index text local == ascii.at_sign then with_domain local (domain_len (drop (local + 1) text))
+    else Some (record { local = local; domain = 0 }))
 
 -- the lengths of a mailbox's parts
 unfoldable pub mailbox : List ℕ → Option Mailbox
@@ -84,7 +87,7 @@ route_len_of text route = if nat_lt (length route) (length text) && is_route rou
 
 -- a route with its colon
 unfoldable pub route_len : List ℕ → ℕ
-route_len text = route_len_of text (before_first (λ b. b == 58) text)
+route_len text = route_len_of text (before_first (λ b. b == ascii.colon) text)
 
 -- the same path, behind so many bytes
 abbrev pub behind : ℕ → Option PathRead → Option PathRead
@@ -102,7 +105,8 @@ bare text = bare_of text (mailbox text)
 abbrev pub closed_of : List ℕ → Option Mailbox → Option PathRead
 closed_of text None = None
 closed_of text (Some m) =
-    if slice_index text (mailbox_len m) == 62 then Some (record { path = To (address_of text m); end = mailbox_len m + 1 }) else None
+    if slice_index text (mailbox_len m) == ascii.greater_than_sign
+    then Some (record { path = To (address_of text m); end = mailbox_len m + 1 }) else None
 
 -- a mailbox and the bracket behind it
 unfoldable pub closed : List ℕ → Option PathRead
@@ -111,11 +115,12 @@ closed text = closed_of text (mailbox text)
 -- what stands behind the first bracket of a path
 unfoldable pub bracketed : List ℕ → Option PathRead
 bracketed text =
-    if slice_index text 0 == 62 then Some (record { path = Null; end = 1 }) else behind (route_len text) (closed (drop (route_len text) text))
+    if slice_index text 0 == ascii.greater_than_sign then Some (record { path = Null; end = 1 })
+    else behind (route_len text) (closed (drop (route_len text) text))
 
 -- a path
 unfoldable pub path : List ℕ → Option PathRead
-path text = if slice_index text 0 == 60 then behind 1 (bracketed (drop 1 text)) else bare text
+path text = if slice_index text 0 == ascii.less_than_sign then behind 1 (bracketed (drop 1 text)) else bare text
 
 -- a path behind space
 unfoldable pub reading : List ℕ → Option PathRead
