@@ -4,16 +4,16 @@ use Rattle.std.specs.Prelude.{option_map}
 use Rattle.std.specs.List.{count_by}
 use Rattle.std.proofs.lemmas.Bool.{le-ltb, lt-ltb}
 use Rattle.std.proofs.lemmas.List.{length-append}
-use Rattle.pf_asks.specs.Contracts.Causes.{Rose}
+use Rattle.pf_asks.specs.Clauses.Causes.{Rose}
 use Rattle.pf_base.specs.declared.fault.OuterFault.TheVariants.{Failed}
-use Rattle.pf_asks.specs.Contracts.Held.{Held, RoseBy}
-use Rattle.pf_asks.specs.Contracts.Led.{IsSent, Links, UsesTold}
+use Rattle.pf_asks.specs.Clauses.Held.{Held, RoseBy}
+use Rattle.pf_asks.specs.Clauses.Led.{IsSent, Links, UsesTold}
 use Rattle.pf_asks.specs.Wire.{Connects, Receives, Sends, Wire, begun, hung_up, is_down, next_outcome, reply_bytes}
 use Rattle.pf_asks.specs.declared.links.LinkStep.TheVariants.{Connect, Send, Receive}
 use Rattle.pf_asks.specs.declared.links.Outcome.{Outcome}
 use Rattle.pf_asks.specs.declared.links.Outcome.TheVariants.{Down, Reply}
 use Rattle.lookup_forms.specs.Policy.{reply_in, reply_limit}
-use Rattle.lookup_forms.specs.Contracts.Trying.{HasRead, IsAnswered, IsRead, IsTried, Tries, fresh}
+use Rattle.lookup_forms.specs.Clauses.Trying.{HasRead, IsAnswered, IsRead, IsTried, Tries, fresh}
 
 -- nothing was read yet
 pub read_none : (wire : Option Wire) → HasRead wire wire []

@@ -5,11 +5,11 @@ use Rattle.std.proofs.lemmas.List.Elements.{All-append}
 use Rattle.std.proofs.lemmas.List.Sums.{AllPass-from_list_all}
 use Rattle.std.specs.List.{list_all}
 use Rattle.std.specs.Prelude.{nat_lt, slice_index_or, ok_or, slice_get}
-use Rattle.pf_base.specs.Contracts.Unless.{Unless}
+use Rattle.pf_base.specs.Clauses.Unless.{Unless}
 use Rattle.pf_asks.proofs.CountLaws.{at_most_done, at_most_look, at_most_more, at_most_next, fails_only_look, fails_only_next, fails_only_ok}
-use Rattle.pf_asks.specs.Contracts.Held.{Answered}
-use Rattle.pf_asks.specs.Contracts.Looking.{CanFind, Tables, Looked, Stays, look_failed, value_of}
-use Rattle.pf_asks.specs.Contracts.Led.{AtMost, FailsOnly}
+use Rattle.pf_asks.specs.Clauses.Held.{Answered}
+use Rattle.pf_asks.specs.Clauses.Looking.{CanFind, Tables, Looked, Stays, look_failed, value_of}
+use Rattle.pf_asks.specs.Clauses.Led.{AtMost, FailsOnly}
 use Rattle.pf_asks.specs.Tries.{on_ok}
 use Rattle.pf_asks.specs.declared.lookup.Found.{Found}
 use Rattle.pf_asks.specs.declared.lookup.Found.TheVariants.{Value, Absent}

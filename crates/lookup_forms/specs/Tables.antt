@@ -2,8 +2,8 @@
 use Rattle.std.specs.Prelude.{◌≡◌, ◌≤◌, ◌==◌, ℕ, Bool, true, false, List, [], ◌∷◌, Option, None, Some, length, slice_get}
 use Rattle.std.specs.List.{find, list_any}
 use Rattle.std.specs.Str.{bytes_eq}
-use Rattle.pf_base.specs.Contracts.Causes.{counted}
-use Rattle.pf_asks.specs.Contracts.Looking.{Tables, Values}
+use Rattle.pf_base.specs.Clauses.Causes.{counted}
+use Rattle.pf_asks.specs.Clauses.Looking.{Tables, Values}
 use Rattle.pf_asks.specs.Questions.{look}
 use Rattle.pf_asks.specs.Tries.{Try, ok, ◌>>=◌}
 use Rattle.pf_asks.specs.declared.lookup.Found.{Found}

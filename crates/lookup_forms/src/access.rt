@@ -1,8 +1,8 @@
 //! An answer that is kept and used again within one question.
 ghost use Rattle.std.specs.Prelude.{◌≡◌, ◌∷◌, [], true, Ok, IfOk};
 ghost use Rattle.pf_asks.specs.declared.lookup.Found.TheVariants.{Value};
-ghost use Rattle.pf_asks.specs.Contracts.Led.{ByTables};
-ghost use Rattle.pf_asks.specs.Contracts.Looking.{CanFind};
+ghost use Rattle.pf_asks.specs.Clauses.Led.{ByTables};
+ghost use Rattle.pf_asks.specs.Clauses.Looking.{CanFind};
 ghost use Rattle.lookup_forms.specs.Access as spec;
 ghost use Rattle.lookup_forms.specs.Classes.{tables_of};
 

@@ -1,8 +1,8 @@
 //! Straight lines over lookups, with a fault of its own.
 ghost use Rattle.std.specs.Prelude.{◌≡◌, ◌++◌};
-ghost use Rattle.pf_base.specs.Contracts.Unless.{Unless};
-ghost use Rattle.pf_asks.specs.Contracts.Led.{ByTables};
-ghost use Rattle.pf_asks.specs.Contracts.Looking.{CanFind};
+ghost use Rattle.pf_base.specs.Clauses.Unless.{Unless};
+ghost use Rattle.pf_asks.specs.Clauses.Led.{ByTables};
+ghost use Rattle.pf_asks.specs.Clauses.Looking.{CanFind};
 ghost use Rattle.lookup_forms.specs.Classes as classes;
 
 use crate::first::find_first;

@@ -1,9 +1,9 @@
 //! A loop over tables that returns early.
 ghost use Rattle.std.specs.Prelude.{◌≤◌, ◌+◌, IsErrOf, length};
-ghost use Rattle.pf_asks.specs.Contracts.Causes.{Rose};
-ghost use Rattle.pf_base.specs.Contracts.Unless.{Unless};
-ghost use Rattle.pf_asks.specs.Contracts.Led.{ByTables};
-ghost use Rattle.pf_asks.specs.Contracts.Looking.{CanFind};
+ghost use Rattle.pf_asks.specs.Clauses.Causes.{Rose};
+ghost use Rattle.pf_base.specs.Clauses.Unless.{Unless};
+ghost use Rattle.pf_asks.specs.Clauses.Led.{ByTables};
+ghost use Rattle.pf_asks.specs.Clauses.Looking.{CanFind};
 ghost use Rattle.lookup_forms.specs.Tables.{first_of};
 
 use pf_asks::{Found, Lookup, TableFault};

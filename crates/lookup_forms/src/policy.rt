@@ -1,8 +1,8 @@
 //! Tries of a policy service.
 ghost use Rattle.std.specs.Prelude.{◌≡◌, IfOk};
-ghost use Rattle.pf_asks.specs.Contracts.Led.{ByLinks};
+ghost use Rattle.pf_asks.specs.Clauses.Led.{ByLinks};
 ghost use Rattle.lookup_forms.specs.Policy as spec;
-ghost use Rattle.lookup_forms.specs.Contracts.Trying.{Reads, Tries};
+ghost use Rattle.lookup_forms.specs.Clauses.Trying.{Reads, Tries};
 
 use pf_asks::Links;
 use pf_base::{Bytes, Failed, NoMemory, OuterFault};

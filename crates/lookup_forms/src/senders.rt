@@ -1,6 +1,6 @@
 //! Straight lines over questions to a resolver.
 ghost use Rattle.std.specs.Prelude.{◌≡◌, IfOk};
-ghost use Rattle.pf_asks.specs.Contracts.Led.{ByResolver};
+ghost use Rattle.pf_asks.specs.Clauses.Led.{ByResolver};
 ghost use Rattle.pf_asks.specs.Resolving.{or_again};
 ghost use Rattle.lookup_forms.specs.Senders as spec;
 

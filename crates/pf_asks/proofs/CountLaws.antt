@@ -2,12 +2,12 @@
 use Rattle.std.proofs.Common.{◌≡◌, ◌≢◌, ◌≤◌, ◌+◌, ℕ, List, [], ◌∷◌, Option, None, Some, Result, Ok, Err, length, refl, ap, ◌∙◌, arith, append-nil}
 use Rattle.std.specs.Prelude.{IsErrOf, cond, unwrap_or, ok_or}
 use Rattle.std.proofs.lemmas.List.Sums.{sum_by-cons}
-use Rattle.pf_asks.specs.Contracts.Causes.{Rose}
-use Rattle.pf_base.specs.Contracts.Unless.{Unless}
+use Rattle.pf_asks.specs.Clauses.Causes.{Rose}
+use Rattle.pf_base.specs.Clauses.Unless.{Unless}
 use Rattle.pf_asks.specs.Heard.{Heard, ◌then◌, next, nothing}
-use Rattle.pf_asks.specs.Contracts.Held.{Tells, failures, is_failure}
-use Rattle.pf_asks.specs.Contracts.Led.{AtMost, ByTables, FailsOnly, Meant}
-use Rattle.pf_asks.specs.Contracts.Looking.{Looked, Tables, Values, look_failed}
+use Rattle.pf_asks.specs.Clauses.Held.{Tells, failures, is_failure}
+use Rattle.pf_asks.specs.Clauses.Led.{AtMost, ByTables, FailsOnly, Meant}
+use Rattle.pf_asks.specs.Clauses.Looking.{Looked, Tables, Values, look_failed}
 use Rattle.pf_asks.specs.Questions.{Ask, Means, done, look, ◌>>=◌}
 use Rattle.pf_asks.specs.Tries as tries
 use Rattle.pf_asks.specs.Tries.{Try, ok, on_ok}

@@ -5,7 +5,7 @@ use Rattle.std.specs.Prelude.{cond, unwrap_or}
 use Rattle.std.specs.List.{count_by, list_all}
 use Rattle.std.proofs.lemmas.List.Folds.{list_all-append}
 use Rattle.std.proofs.lemmas.List.Sums.{sum_by-append}
-use Rattle.pf_asks.specs.Contracts.Held.{Answered, Held, Hears, Holds, Kept, RoseBy, Tells, failures, is_failure, is_meant_or_failure}
+use Rattle.pf_asks.specs.Clauses.Held.{Answered, Held, Hears, Holds, Kept, RoseBy, Tells, failures, is_failure, is_meant_or_failure}
 
 pub rose_by_none : (n : ℕ) → RoseBy 0 n n
 rose_by_none n = omega arith

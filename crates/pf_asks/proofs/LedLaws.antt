@@ -4,9 +4,9 @@ use Rattle.std.specs.Prelude.{if◌then◌else◌}
 use Rattle.std.proofs.lemmas.List.{get_or_append_left, get_or-append-add, length-append}
 use Rattle.pf_asks.proofs.HeldLaws.{answered_again, few_more, hears_more, hears_nothing, kept_refl, kept_trans, rose_by_none, tells_kept}
 use Rattle.pf_asks.specs.Heard.{Heard, ◌then◌, nothing}
-use Rattle.pf_asks.specs.Contracts.Held.{Answered, Held, Holds, Kept}
-use Rattle.pf_asks.specs.Contracts.Led.{Led, Links, Looks, Meant, Same, TablesLed, Uses, UsesTold, World, tried, world}
-use Rattle.pf_asks.specs.Contracts.Looking.{CanFind, Looked, Stays, Tables, look_failed, value_of}
+use Rattle.pf_asks.specs.Clauses.Held.{Answered, Held, Holds, Kept}
+use Rattle.pf_asks.specs.Clauses.Led.{Led, Links, Looks, Meant, Same, TablesLed, Uses, UsesTold, World, tried, world}
+use Rattle.pf_asks.specs.Clauses.Looking.{CanFind, Looked, Stays, Tables, look_failed, value_of}
 use Rattle.pf_asks.specs.Questions.{Ask, Gave, Means, ask, behind, done, look, try, ◌>>=◌}
 use Rattle.pf_asks.specs.Resolving.{Asked, answer_of, ask_failed}
 use Rattle.pf_asks.specs.Wire.{Wire, is_down}

@@ -2,8 +2,8 @@
 ghost use Rattle.std.specs.Prelude.{◌≡◌};
 ghost use Rattle.std.specs.Option.{option_map};
 ghost use Rattle.std.specs.Io.{ReadsAtMost};
-ghost use Rattle.pf_asks.specs.Contracts.Causes.{HasCause, HasOuterCause};
-ghost use Rattle.pf_asks.specs.Contracts.Held.{Held};
+ghost use Rattle.pf_asks.specs.Clauses.Causes.{HasCause, HasOuterCause};
+ghost use Rattle.pf_asks.specs.Clauses.Held.{Held};
 ghost use Rattle.pf_asks.specs.Wire.{Connects, Receives, Sends, Wire, hung_up};
 
 use pf_base::{Bytes, Failed, OuterFault};

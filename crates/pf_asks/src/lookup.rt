@@ -1,8 +1,8 @@
 //! Tables that are looked up.
 ghost use Rattle.std.specs.Prelude.{◌≡◌, ◌<◌, true};
-ghost use Rattle.pf_base.specs.Contracts.Unless.{Unless};
-ghost use Rattle.pf_asks.specs.Contracts.Held.{Answered};
-ghost use Rattle.pf_asks.specs.Contracts.Looking.{Stays, Tables, look_failed, value_of};
+ghost use Rattle.pf_base.specs.Clauses.Unless.{Unless};
+ghost use Rattle.pf_asks.specs.Clauses.Held.{Answered};
+ghost use Rattle.pf_asks.specs.Clauses.Looking.{Stays, Tables, look_failed, value_of};
 
 use pf_base::{Bytes, TableId};
 use std::alloc::Global;

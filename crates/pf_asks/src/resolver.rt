@@ -1,6 +1,6 @@
 //! A resolver of names (RFC 1034, 5).
-ghost use Rattle.pf_base.specs.Contracts.Unless.{Unless};
-ghost use Rattle.pf_asks.specs.Contracts.Held.{Answered, Held, Kept};
+ghost use Rattle.pf_base.specs.Clauses.Unless.{Unless};
+ghost use Rattle.pf_asks.specs.Clauses.Held.{Answered, Held, Kept};
 ghost use Rattle.pf_asks.specs.Resolving.{HasValues, answer_of, ask_failed};
 ghost use Rattle.pf_asks.specs.declared.resolver.Row.{Row};
 ghost use Rattle.std.specs.Prelude.{List as Seq, IfOk};

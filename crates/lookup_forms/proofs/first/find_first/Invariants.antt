@@ -1,5 +1,5 @@
 use Rattle.std.proofs.Common.{drop}
-use Rattle.pf_asks.specs.Contracts.Led.{TablesLed}
+use Rattle.pf_asks.specs.Clauses.Led.{TablesLed}
 use Rattle.lookup_forms.specs.Tables.{first_of}
 use Rattle.lookup_forms.proofs.first.find_first.Given as goal
 

@@ -3,7 +3,7 @@ use Rattle.std.specs.Prelude.{get_or}
 use Rattle.std.proofs.lemmas.List.{at_drop_more, at_drop_all}
 use Rattle.std.proofs.lemmas.Result.{IfOk-weaker}
 use Rattle.pf_asks.proofs.LedLaws.{led_next, led_refl}
-use Rattle.pf_asks.specs.Contracts.Led.{world}
+use Rattle.pf_asks.specs.Clauses.Led.{world}
 use Rattle.lookup_forms.specs.Restrictions as spec
 use Rattle.lookup_forms.specs.declared.restrictions.Restriction.{Restriction}
 use Rattle.lookup_forms.specs.declared.restrictions.Restriction.TheVariants.{PermitAuthDestination}

@@ -1,7 +1,7 @@
 -- Why a call answers a fault: only where the count of faults of the object that was handed in rose in that call.
 -- Words of contracts, by no standard.
 use Rattle.std.specs.Prelude.{◌≡◌, ℕ, ◌≤◌, Result, OnOk, OnErr, IsErrOf}
-use Rattle.pf_base.specs.Contracts.Causes.{counted}
+use Rattle.pf_base.specs.Clauses.Causes.{counted}
 use Rattle.pf_base.specs.declared.fault.OuterFault.{OuterFault}
 use Rattle.pf_base.specs.declared.fault.OuterFault.TheVariants.{Failed, NoMemory}
 

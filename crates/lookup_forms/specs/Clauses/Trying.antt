@@ -1,8 +1,8 @@
 -- What calls of one try leave. Words of the code's contracts, between single sends and `one_reply`.
 use Rattle.std.specs.Prelude.{◌≡◌, ◌≢◌, ◌≤◌, ◌++◌, ℕ, List, [], ◌∷◌, Option, None, Some}
 use Rattle.std.specs.List.{count_by}
-use Rattle.pf_asks.specs.Contracts.Held.{Held, RoseBy}
-use Rattle.pf_asks.specs.Contracts.Led.{IsSent, tried}
+use Rattle.pf_asks.specs.Clauses.Held.{Held, RoseBy}
+use Rattle.pf_asks.specs.Clauses.Led.{IsSent, tried}
 use Rattle.pf_asks.specs.Wire.{Open, Wire, is_down, next_outcome, reply_bytes, with_left}
 use Rattle.pf_asks.specs.declared.links.LinkStep.TheVariants.{Connect, Send}
 use Rattle.pf_asks.specs.declared.links.Outcome.{Outcome}

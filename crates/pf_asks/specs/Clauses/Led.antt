@@ -2,8 +2,8 @@
 use Rattle.std.specs.Prelude.{◌≡◌, ◌≤◌, ◌+◌, ◌++◌, ℕ, List, [], ◌∷◌, Option, None, Some, Err, take, length}
 use Rattle.std.specs.List.{count_by}
 use Rattle.pf_asks.specs.Heard.{Heard, ◌then◌}
-use Rattle.pf_asks.specs.Contracts.Held.{Held, Hears, RoseBy, Tells, failures}
-use Rattle.pf_asks.specs.Contracts.Looking.{Looked, Stays, Tables, look_failed}
+use Rattle.pf_asks.specs.Clauses.Held.{Held, Hears, RoseBy, Tells, failures}
+use Rattle.pf_asks.specs.Clauses.Looking.{Looked, Stays, Tables, look_failed}
 use Rattle.pf_asks.specs.Questions.{Ask, Means, behind, done}
 use Rattle.pf_asks.specs.Resolving.{ask_failed}
 use Rattle.pf_asks.specs.Tries.{Try}
