@@ -2,10 +2,9 @@
 use Rattle.std.proofs.Common.{◌≡◌, ◌≢◌, ℕ, Bool, true, false, not, if◌then◌else◌, suc, ◌+◌, ◌-◌, ◌<◌, List, [], ◌∷◌, ◌++◌, length, get_or, take, drop, reverse, refl, sym, ap, ◌∙◌, inl, inr, arith, eqb, cond}
 use Rattle.std.specs.List.{All, join_with_byte, onto_first, prefix_len, suffix_len}
 use Rattle.std.specs.Prelude.{◌⊎◌}
-use Rattle.std.proofs.lemmas.Bool.{cases_lt, ne_eqb}
+use Rattle.std.proofs.lemmas.Bool.{ne_eqb}
 use Rattle.std.proofs.lemmas.List.{append_cancel_left, drop_more, get_or-take, get_or_default, length-reverse, length-take-le, length_push, reverse-append, take-append-drop, take_at}
 use Rattle.std.proofs.lemmas.List.Splits.{join_with_byte-slice_split, slice_split-cons_no, slice_split-cons_yes, slice_split_at, slice_split_none}
-use Rattle.std.proofs.lemmas.List.Sums.{suffix_len-le-length}
 use Rattle.pf_base.specs.Lines.{is_feed, lines, parts, rest}
 use Rattle.pf_base.specs.Clauses.Pieces.{onto_line, unless_line}
 
@@ -65,15 +64,25 @@ parted_by b bytes true feed (inl whole) =
     inr (omega (arith, behind_is), [], [], slice_split-cons_yes is_feed b bytes feed ∙ ap (λ p. [] ∷ p) whole.1 ∙ ap (λ r. [] ∷ r ∷ []) (sym cut))
 parted_by b bytes true feed (inr cut) =
     let same = suffix_some (λ b. not (is_feed b)) b bytes cut.0 in
-    inr (omega (arith, same, cut.0), [], cut.1 ∷ cut.2, slice_split-cons_yes is_feed b bytes feed ∙ ap (λ p. [] ∷ p) cut.3
-    ∙ ap (λ r. [] ∷ (cut.1 ∷ (cut.2 ++ (r ∷ [])))) (sym (rest_kept b bytes same cut.0)))
+    inr (
+      omega (arith, same, cut.0),
+      [],
+      cut.1 ∷ cut.2,
+      slice_split-cons_yes is_feed b bytes feed ∙ ap (λ p. [] ∷ p) cut.3
+          ∙ ap (λ r. [] ∷ (cut.1 ∷ (cut.2 ++ (r ∷ [])))) (sym (rest_kept b bytes same cut.0)),
+    )
 parted_by b bytes false feed (inl whole) =
     let n = suffix_all (λ b. not (is_feed b)) b bytes whole.0 ∙ ap (λ t. length bytes + cond (not t) 1 0) feed in
     inl (omega (arith, n), slice_split-cons_no is_feed b bytes feed ∙ ap (onto_first b) whole.1)
 parted_by b bytes false feed (inr cut) =
     let same = suffix_some (λ b. not (is_feed b)) b bytes cut.0 in
-    inr (omega (arith, same, cut.0), b ∷ cut.1, cut.2, slice_split-cons_no is_feed b bytes feed ∙ ap (onto_first b) cut.3
-    ∙ ap (λ r. (b ∷ cut.1) ∷ (cut.2 ++ (r ∷ []))) (sym (rest_kept b bytes same cut.0)))
+    inr (
+      omega (arith, same, cut.0),
+      b ∷ cut.1,
+      cut.2,
+      slice_split-cons_no is_feed b bytes feed ∙ ap (onto_first b) cut.3
+          ∙ ap (λ r. (b ∷ cut.1) ∷ (cut.2 ++ (r ∷ []))) (sym (rest_kept b bytes same cut.0)),
+    )
 
 is_parted : (text : List ℕ) → IsParted text
 is_parted [] = inl (refl, refl)
@@ -204,12 +213,12 @@ lines-append [] ys = rw (lines-nil, rest-nil) (none (lines ys)) where
   none (y ∷ Y) = refl
 lines-append (x ∷ xs) ys =
     rw (lines-cons x (xs ++ ys), lines-cons x xs, rest-cons x xs) (
-      elim (eqb x 10) as (λ b. (if b then [] ∷ lines (xs ++ ys) else onto_line (x ∷ []) (lines (xs ++ ys)))
-      ≡ (if b then [] ∷ lines xs else onto_line (x ∷ []) (lines xs))
-      ++ onto_line (if b then rest xs else unless_line (lines xs) (x ∷ xs) (rest xs)) (lines ys)) [
-        | true ↦ ap (λ l. [] ∷ l) (lines-append xs ys)
-        | false ↦ ap (onto_line (x ∷ [])) (lines-append xs ys) ∙ lines_seam x xs (lines xs) (rest xs) (lines ys) (rest_of_none xs)
-      ]
+    elim (eqb x 10) as (λ b. (if b then [] ∷ lines (xs ++ ys) else onto_line (x ∷ []) (lines (xs ++ ys)))
+    ≡ (if b then [] ∷ lines xs else onto_line (x ∷ []) (lines xs))
+    ++ onto_line (if b then rest xs else unless_line (lines xs) (x ∷ xs) (rest xs)) (lines ys)) [
+      | true ↦ ap (λ l. [] ∷ l) (lines-append xs ys)
+      | false ↦ ap (onto_line (x ∷ [])) (lines-append xs ys) ∙ lines_seam x xs (lines xs) (rest xs) (lines ys) (rest_of_none xs)
+    ]
     )
 
 rest_seam : (x : ℕ) (xs ys : List ℕ) (L : List (List ℕ)) (R : List ℕ) (Y : List (List ℕ)) (Q : List ℕ)
@@ -225,9 +234,9 @@ rest-append [] ys = rw rest-nil (none (lines ys) (rest_of_none ys)) where
   none (y ∷ Y) h = refl
 rest-append (x ∷ xs) ys =
     rw (rest-cons x (xs ++ ys), rest-cons x xs) (
-      elim (eqb x 10) as (λ b. (if b then rest (xs ++ ys) else unless_line (lines (xs ++ ys)) (x ∷ (xs ++ ys)) (rest (xs ++ ys)))
-      ≡ unless_line (lines ys) ((if b then rest xs else unless_line (lines xs) (x ∷ xs) (rest xs)) ++ ys) (rest ys)) [
-        | true ↦ rest-append xs ys
-        | false ↦ rw (lines-append xs ys, rest-append xs ys) (rest_seam x xs ys (lines xs) (rest xs) (lines ys) (rest ys))
-      ]
+    elim (eqb x 10) as (λ b. (if b then rest (xs ++ ys) else unless_line (lines (xs ++ ys)) (x ∷ (xs ++ ys)) (rest (xs ++ ys)))
+    ≡ unless_line (lines ys) ((if b then rest xs else unless_line (lines xs) (x ∷ xs) (rest xs)) ++ ys) (rest ys)) [
+      | true ↦ rest-append xs ys
+      | false ↦ rw (lines-append xs ys, rest-append xs ys) (rest_seam x xs ys (lines xs) (rest xs) (lines ys) (rest ys))
+    ]
     )

@@ -1,5 +1,5 @@
 -- Worked examples of the definitions, each by computation.
-use Rattle.std.proofs.Common.{◌≡◌, ℕ, Bool, true, false, List, [], ◌∷◌, None, Some, Ok, Err, refl, codes, map}
+use Rattle.std.proofs.Common.{◌≡◌, ℕ, true, false, List, [], ◌∷◌, None, Some, Ok, Err, refl, codes, map}
 use Rattle.pf_base.specs.Braces.{lone_brace, partner}
 use Rattle.pf_base.specs.Clauses.Causes.{counted, counted_by}
 use Rattle.pf_base.specs.FileList.{file_of, whole_file, with_file}

@@ -1,5 +1,5 @@
 -- A text that is parted outside braces.
-use Rattle.std.proofs.Common.{◌≡◌, ℕ, Bool, true, false, if◌then◌else◌, List, [], ◌∷◌, ◌++◌, refl, sym, ap, append_assoc}
+use Rattle.std.proofs.Common.{◌≡◌, ℕ, true, false, if◌then◌else◌, List, [], ◌∷◌, ◌++◌, refl}
 use Rattle.std.specs.List.{onto_first}
 use Rattle.std.specs.Prelude.{◌&&◌, ◌==◌}
 use Rattle.pf_base.specs.Braces.{open_behind}
@@ -9,10 +9,6 @@ use Rattle.pf_base.specs.Words.{is_separator, parted}
 abbrev pub onto_part : List ℕ → List (List ℕ) → List (List ℕ)
 onto_part bytes [] = bytes ∷ []
 onto_part bytes (part ∷ parts) = (bytes ++ part) ∷ parts
-
-pub onto_part_more : (bytes : List ℕ) (b : ℕ) (parts : List (List ℕ)) → onto_part bytes (onto_first b parts) ≡ onto_part (bytes ++ (b ∷ [])) parts
-onto_part_more bytes b [] = refl
-onto_part_more bytes b (part ∷ parts) = ap (λ p. p ∷ parts) (sym (append_assoc bytes (b ∷ []) part))
 
 onto_none : (b : ℕ) (parts : List (List ℕ)) → onto_part [] (onto_first b parts) ≡ onto_first b parts
 onto_none b [] = refl
