@@ -49,15 +49,9 @@ pub takes_more : {a b c : Input} {xs ys : List ℕ} → Takes a b xs → Takes b
 takes_more {a} {b} {c} {xs} {ys} first second = record {
   left = first.left ∙ ap (prepend_known xs) second.left ∙ prepend_known-append xs ys c.left;
   given = omega (arith, first.given, second.given, length-append xs ys);
+  ends = second.ends ∙ first.ends;
   faults = second.faults ∙ first.faults;
 }
 
 pub takes_none : (old : Input) → Takes old old []
-takes_none old = record { left = sym (prepend_known-nil old.left); given = omega arith; faults = refl }
-
--- a read that gave nothing changed nothing
-pub takes_nothing : (old new : Input) → Takes old new [] → new ≡ old
-takes_nothing old new takes =
-    let left : new.left ≡ old.left = sym (takes.left ∙ prepend_known-nil new.left) in
-    let given : new.given ≡ old.given = omega (arith, takes.given) in
-    ap (λ l. record new { left = l }) left ∙ ap (λ g. record { left = old.left; given = g; faults = new.faults }) given ∙ ap (λ f. record old { faults = f }) takes.faults
+takes_none old = record { left = sym (prepend_known-nil old.left); given = omega arith; ends = refl; faults = refl }

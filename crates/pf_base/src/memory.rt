@@ -80,6 +80,7 @@ pub struct MemSource {
     bytes: Bytes,
     at: usize,
     given: u64,
+    ends: u64,
     cuts: List<u64>,
     schedule: Schedule,
 }
@@ -93,6 +94,7 @@ impl Model for MemSource {
     ghost view = { λ source. record {
       left = drop source.at source.bytes;
       given = source.given;
+      ends = source.ends;
       cuts = source.cuts;
       calls = source.schedule;
     } };
@@ -106,12 +108,13 @@ impl MemSource {
     /// These bytes. `cuts` are the greatest sizes of successive reads in bytes, the last one repeated; a cut of 0 counts
     /// as 1, and an empty list sets no limit. `failing` are the numbers, from 1, of the reads that fail.
     pub fn new(bytes: Bytes, cuts: List<u64>, failing: List<u64>) -> MemSource
-        ensures { result ≡ record { left = bytes; given = 0; cuts = cuts; calls = none_made failing } }
+        ensures { result ≡ record { left = bytes; given = 0; ends = 0; cuts = cuts; calls = none_made failing } }
     {
         MemSource {
             bytes,
             at: 0,
             given: 0,
+            ends: 0,
             cuts,
             schedule: Schedule::new(failing),
         }
@@ -150,9 +153,16 @@ impl Source for MemSource {
         if self.schedule.next() {
             return Err(Failed);
         }
+        if buf.is_empty() {
+            return Ok(0);
+        }
         let greatest = self.greatest_read() as usize;
         let left = &self.bytes.as_slice()[self.at..];
         let count = copy_front(buf, left, greatest);
+        if count == 0 {
+            self.ends = self.ends.saturating_add(1);
+            return Ok(0);
+        }
         self.at += count;
         self.given = self.given.saturating_add(count as u64);
         Ok(count)

@@ -11,11 +11,12 @@ use crate::fault::{Failed, OuterFault};
 
 /// Where bytes come from.
 pub trait Source {
-    /// The bytes that are left, where it tells them, how many were given, and how often a read has failed.
+    /// The bytes that are left, where it tells them, how many were given, how often a read has found the end, and how often one
+    /// has failed.
     ghost told: { Self → Input };
 
-    /// Reads some bytes into the buffer and says how many: 0 at the end alone, where the buffer is not empty. A failed read
-    /// takes no byte and is counted once.
+    /// Reads some bytes into the buffer and says how many: 0 at the end alone, where the buffer is not empty. A read that finds
+    /// the end is counted once, and so is a failed one, which takes no byte.
     fn read(&mut self, buf: &mut [u8]) -> Result<usize, Failed>
         ensures bound { ReadsAtMost result buf.new }
         ensures bytes { Reads (told self.old) (told self.new) result buf.new };

@@ -1,5 +1,5 @@
 //! The real objects outside: streams, a file that is appended to, and files under their names. They tell contracts nothing of
-//! their content, and count their faults, the bytes that were read, and the reads of files.
+//! their content, and count their faults, the bytes that were read, the reads that found the end, and the reads of files.
 ghost use Rattle.std.specs.Prelude.{◌≡◌, None, IfOk};
 ghost use Rattle.std.specs.Io.{ReadsAtMost};
 
@@ -16,6 +16,7 @@ use std::io::{Read, Write};
 pub struct Reading<R: Drop> {
     reader: R,
     given: u64,
+    ends: u64,
     faults: u64,
 }
 
@@ -24,17 +25,22 @@ impl<R: Drop> Reading<R> {
         Reading {
             reader,
             given: 0,
+            ends: 0,
             faults: 0,
         }
     }
 }
 
 impl<R: Read + Drop> Source for Reading<R> {
-    ghost told = { λ source. record { left = None; given = source.given; faults = source.faults } };
+    ghost told = { λ source. record { left = None; given = source.given; ends = source.ends; faults = source.faults } };
 
     fn read(&mut self, buf: &mut [u8]) -> Result<usize, Failed> {
         match self.reader.read(buf) {
             Ok(count) => {
+                if count == 0 && !buf.is_empty() {
+                    self.ends = self.ends.saturating_add(1);
+                    return Ok(0);
+                }
                 self.given = self.given.saturating_add(count as u64);
                 Ok(count)
             }

@@ -20,7 +20,7 @@ use Rattle.pf_top.specs.Opening.{setup_of}
 use Rattle.pf_top.specs.Run.{Unformed, usage_line}
 use Rattle.pf_top.specs.Smtpd.{Course, Leaves, SaysLine, SmtpdRun, course_status, ended_status, opened_in, statuses, statuses_by, talk_status}
 use Rattle.pf_top.specs.Smtpd.{Course as course}
-use Rattle.pf_top.specs.Talk.{HasSession, Talks, TalksCut, speech_of}
+use Rattle.pf_top.specs.Talk.{EndsAs, HasSession, Speech, Talks, TalksCut, speech_of}
 use Rattle.pf_top.specs.declared.opening.Opening.{Opening}
 use Rattle.pf_top.specs.declared.talk.Ended.{Ended}
 use Rattle.pf_top.specs.declared.talk.Ended.TheVariants as ended
@@ -33,6 +33,18 @@ by_ended : (P : ℕ → Type 0) → P 0 → P 10 → (how : Ended) → P (ended_
 by_ended P done budget ended.AtEnd = done
 by_ended P done budget ended.AtOver = done
 by_ended P done budget ended.AtBudget = budget
+
+-- the end that a read found changes no sink, and no count of faults
+ended_sinks : {speech : Speech} {budget : ℕ} {mid now : Streams} {taken : List ℕ} (how : Ended) → EndsAs speech budget mid now taken how → now.sinks ≡ mid.sinks
+ended_sinks ended.AtEnd ends = ap (λ w. w.sinks) ends.0
+ended_sinks ended.AtOver ends = ap (λ w. w.sinks) ends.0
+ended_sinks ended.AtBudget ends = ap (λ w. w.sinks) ends.0
+
+ended_faults : {speech : Speech} {budget : ℕ} {mid now : Streams} {taken : List ℕ} (how : Ended) → EndsAs speech budget mid now taken how
+    → now.input.faults ≡ mid.input.faults
+ended_faults ended.AtEnd ends = ap (λ w. w.input.faults) ends.0
+ended_faults ended.AtOver ends = ap (λ w. w.input.faults) ends.0
+ended_faults ended.AtBudget ends = ap (λ w. w.input.faults) ends.0
 
 -- no verb gives a record line
 no_records : (records : List RecordLine) → flat_map record_text records ≡ []
@@ -51,7 +63,7 @@ module _ (setup : Setup) where
   cut_none cut = sym (ap (λ x. x ++ cut.texts.mail) (said_none cut.earlier)) ∙ sym (ap (λ t. t.mail) cut.adds) ∙ said_none (cut.earlier ++ cut.piece)
 
   talk_record : (budget : ℕ) (before now : Streams) (result : Result Ended TalkFault) → HasSession setup budget before now result → now.sinks.mail.written ≡ before.sinks.mail.written
-  talk_record budget before now (Ok how) t = talks_record before now t.taken t.talks
+  talk_record budget before now (Ok how) t = ap (λ s. s.mail.written) (ended_sinks how t.ends) ∙ talks_record before t.mid t.taken t.talks
   talk_record budget before now (Err fault.Input) t = ap (λ w. w.sinks.mail.written) t.broken ∙ talks_record before t.mid t.taken t.talks
   talk_record budget before now (Err (fault.Sink why)) (inl t) = stops_record before.sinks now.sinks (out_text (greeting_of setup.banner)) why refl t.stops
   talk_record budget before now (Err (fault.Sink why)) (inr t) = stops_record t.mid.sinks now.sinks t.texts why (cut_none t) t.stops ∙ talks_record before t.mid t.earlier t.talks
@@ -64,7 +76,10 @@ module _ (setup : Setup) where
   talk_causes : (budget : ℕ) (before now : Objects) (result : Result Ended TalkFault) → HasSession setup budget before.streams now.streams result → now.files.faults ≡ before.files.faults
       → HasCauses (counts_of before) (counts_of now) (talk_status result)
   talk_causes budget before now (Ok how) t files =
-      let same = talks_counts before now t.taken t.talks files in
+      let mid : Objects = record { streams = t.mid; files = now.files } in
+      let ended : counts_of now ≡ counts_of mid = counts_same (ended_faults how t.ends) (ap (λ s. s.out.faults) (ended_sinks how t.ends))
+      (ap (λ s. s.mail.faults) (ended_sinks how t.ends)) (ap (λ s. s.log.faults) (ended_sinks how t.ends)) refl in
+      let same = ended ∙ talks_counts before mid t.taken t.talks files in
       by_ended (HasCauses (counts_of before) (counts_of now)) (kept_causes _ _ 0 same refl) (kept_causes _ _ 10 same refl) how
   talk_causes budget before now (Err fault.Input) t files = record {
     input = λ is. ap (λ w. w.input.faults) t.broken ∙ ap counted t.talks.input.faults;

@@ -5,7 +5,7 @@ use Rattle.std.specs.Io.KnownBytes.{IsAtEnd}
 use Rattle.pf_base.proofs.ToldLemmas.{appended_more, takes_more, takes_none}
 use Rattle.pf_base.specs.Lines.{lines}
 use Rattle.pf_base.specs.Clauses.Objects.{Streams, appended, joined, out_text}
-use Rattle.pf_base.specs.Clauses.Told.{Takes, failed_input}
+use Rattle.pf_base.specs.Clauses.Told.{Takes, failed_input, found_end}
 use Rattle.pf_base.specs.declared.texts.SinkFault.{SinkFault}
 use Rattle.pf_base.specs.declared.texts.Texts.{Texts}
 use Rattle.pf_smtp.proofs.PieceLemmas.{joined_assoc}
@@ -49,22 +49,25 @@ passed_more {m = m} {n = n} p q = record {
 over_is : {a b : Streams} {s t : Standing} {n : ℕ} (p : Passed a b s t n) → (given s p.taken).next.over ≡ t.state.over
 over_is p = ap (λ x. x.over) (sym p.took.state)
 
--- nothing is left before the budget was taken
-pub ends_here : {a b now : Streams} {s t : Standing} {n budget : ℕ} → now ≡ b → IsAtEnd b.input.left → t.state.over ≡ false → Passed a b s t n → n < budget
-    → TalksUntil (speech_from s) budget a now ended.AtEnd
-ends_here same at going p less = rw same (record {
+-- a read found the end before the budget was taken
+pub ends_here : {a b now : Streams} {s t : Standing} {n budget : ℕ} → now ≡ record b { input = found_end b.input } → IsAtEnd b.input.left → t.state.over ≡ false
+    → Passed a b s t n → n < budget → TalksUntil (speech_from s) budget a now ended.AtEnd
+ends_here {b = b} found at going p less = record {
   taken = p.taken;
+  mid = b;
   talks = record { input = p.input; sinks = p.took.sinks };
-  ends = (at, omega (arith, p.is, less), over_is p ∙ going);
-})
+  ends = (found, at, omega (arith, p.is, less), over_is p ∙ going);
+}
 
 -- the session is over with a piece
 pub over_here : {a b c : Streams} {s t u : Standing} {m n : ℕ} (budget : ℕ) → t.state.over ≡ false → u.state.over ≡ true → Passed a b s t m → Passed b c t u n → n ≤ 4096 → m + n ≤ budget
     → TalksUntil (speech_from s) budget a c ended.AtOver
-over_here budget going over p q few within = record {
+over_here {c = c} budget going over p q few within = record {
   taken = p.taken ++ q.taken;
+  mid = c;
   talks = record { input = takes_more p.input q.input; sinks = (took_more p.took q.took).sinks };
   ends = (
+    refl,
     ap (λ x. x.over) (sym (took_more p.took q.took).state) ∙ over,
     omega (arith, length-append p.taken q.taken, p.is, q.is, within),
     record { earlier = p.taken; piece = q.taken; parts = refl; few = omega (arith, q.is, few); going = over_is p ∙ going },
@@ -73,10 +76,11 @@ over_here budget going over p q few within = record {
 
 -- the budget was taken
 pub budget_here : {a b : Streams} {s t : Standing} {n budget : ℕ} → t.state.over ≡ false → Passed a b s t n → n ≡ budget → TalksUntil (speech_from s) budget a b ended.AtBudget
-budget_here going p all = record {
+budget_here {b = b} going p all = record {
   taken = p.taken;
+  mid = b;
   talks = record { input = p.input; sinks = p.took.sinks };
-  ends = (p.is ∙ all, over_is p ∙ going);
+  ends = (refl, p.is ∙ all, over_is p ∙ going);
 }
 
 -- a read failed before the budget was taken
@@ -125,15 +129,15 @@ module _ (first : Texts) (speech : Speech) (before mid : Streams) (greeted : mid
     sinks = talks.sinks ∙ ap (λ w. appended w.sinks (speech.said taken)) greeted ∙ appended_more before.sinks first (speech.said taken);
   }
 
-  ends_behind : (budget : ℕ) (now : Streams) (taken : List ℕ) (how : Ended) → EndsAs speech budget now taken how → EndsAs (behind first speech) budget now taken how
-  ends_behind budget now taken ended.AtEnd ends = ends
-  ends_behind budget now taken ended.AtOver ends =
-      let last = ends.2 in
-      (ends.0, ends.1, record { earlier = last.earlier; piece = last.piece; parts = last.parts; few = last.few; going = last.going })
-  ends_behind budget now taken ended.AtBudget ends = ends
+  ends_behind : (budget : ℕ) (end now : Streams) (taken : List ℕ) (how : Ended) → EndsAs speech budget end now taken how → EndsAs (behind first speech) budget end now taken how
+  ends_behind budget end now taken ended.AtEnd ends = ends
+  ends_behind budget end now taken ended.AtOver ends =
+      let last = ends.3 in
+      (ends.0, ends.1, ends.2, record { earlier = last.earlier; piece = last.piece; parts = last.parts; few = last.few; going = last.going })
+  ends_behind budget end now taken ended.AtBudget ends = ends
 
   talked_behind : (budget : ℕ) (now : Streams) (result : Result Ended TalkFault) → Talked speech budget mid now result → Talked (behind first speech) budget before now result
-  talked_behind budget now (Ok how) t = record { taken = t.taken; talks = talks_behind t.talks; ends = ends_behind budget now t.taken how t.ends }
+  talked_behind budget now (Ok how) t = record { taken = t.taken; mid = t.mid; talks = talks_behind t.talks; ends = ends_behind budget t.mid now t.taken how t.ends }
   talked_behind budget now (Err fault.Input) t = record { taken = t.taken; mid = t.mid; talks = talks_behind t.talks; short = t.short; going = t.going; broken = t.broken }
   talked_behind budget now (Err (fault.Sink why)) t = record {
     earlier = t.earlier;

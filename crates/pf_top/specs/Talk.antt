@@ -3,7 +3,7 @@
 use Rattle.std.specs.Prelude.{◌≡◌, ◌⊎◌, ℕ, ◌+◌, ◌<◌, ◌≤◌, ◌++◌, Bool, true, false, List, Result, Ok, Err, length}
 use Rattle.std.specs.Io.KnownBytes.{IsAtEnd}
 use Rattle.pf_base.specs.Clauses.Objects.{Streams, StopsBy, appended, joined, out_text}
-use Rattle.pf_base.specs.Clauses.Told.{Takes, failed_input}
+use Rattle.pf_base.specs.Clauses.Told.{Takes, failed_input, found_end}
 use Rattle.pf_base.specs.declared.texts.SinkFault.{SinkFault}
 use Rattle.pf_base.specs.declared.texts.Texts.{Texts}
 use Rattle.pf_smtp.specs.Clauses.Feeding.{texts_of}
@@ -44,17 +44,20 @@ pub record HasLastPiece (speech : Speech) (taken : List ℕ) : Type 0 where
   pub few : length piece ≤ piece_limit
   pub going : speech.over earlier ≡ false
 
--- nothing is left, before the budget was taken or the session was over; the session is over with the last piece; or the number of bytes is the budget
-abbrev pub EndsAs : Speech → ℕ → Streams → List ℕ → Ended → Type 0
-EndsAs speech budget now taken ended.AtEnd = IsAtEnd now.input.left × (length taken < budget) × (speech.over taken ≡ false)
-EndsAs speech budget now taken ended.AtOver = (speech.over taken ≡ true) × (length taken ≤ budget) × HasLastPiece speech taken
-EndsAs speech budget now taken ended.AtBudget = (length taken ≡ budget) × (speech.over taken ≡ false)
+-- behind the bytes that were taken, one read found the end, before the budget was taken or the session was over; the session is over with the last
+-- piece; or the number of bytes is the budget
+abbrev pub EndsAs : Speech → ℕ → Streams → Streams → List ℕ → Ended → Type 0
+EndsAs speech budget mid now taken ended.AtEnd =
+    (now ≡ record mid { input = found_end mid.input }) × IsAtEnd mid.input.left × (length taken < budget) × (speech.over taken ≡ false)
+EndsAs speech budget mid now taken ended.AtOver = (now ≡ mid) × (speech.over taken ≡ true) × (length taken ≤ budget) × HasLastPiece speech taken
+EndsAs speech budget mid now taken ended.AtBudget = (now ≡ mid) × (length taken ≡ budget) × (speech.over taken ≡ false)
 
 -- a whole session that may take so many bytes
 pub record TalksUntil (speech : Speech) (budget : ℕ) (before now : Streams) (how : Ended) : Type 0 where
   pub taken : List ℕ
-  pub talks : Talks speech before now taken
-  pub ends : EndsAs speech budget now taken how
+  pub mid : Streams
+  pub talks : Talks speech before mid taken
+  pub ends : EndsAs speech budget mid now taken how
 
 -- a session that is not over, whose input failed just once, before the budget was taken
 pub record TalksShort (speech : Speech) (budget : ℕ) (before now : Streams) : Type 0 where

@@ -11,10 +11,11 @@ use Rattle.pf_base.specs.declared.pair.Pair.{Pair}
 use Rattle.pf_base.specs.declared.reading.ReadFault.{ReadFault}
 use Rattle.pf_base.specs.declared.reading.ReadFault.TheVariants.{Failed as ReadFailed, TooLarge, NoMemory as ReadNoMemory}
 
--- where bytes come from: those that are left, how many were given, and how often a read failed
+-- where bytes come from: those that are left, how many were given, how often a read found the end, and how often one failed
 pub record Input : Type 0 where
   pub left : Option (List ℕ)
   pub given : ℕ
+  pub ends : ℕ
   pub faults : ℕ
 
 -- where bytes go: those that were written, and how often a write failed
@@ -38,17 +39,26 @@ failed_output old = record old { faults = counted old.faults }
 abbrev pub failed_tree : Tree → Tree
 failed_tree old = record old { faults = counted old.faults }
 
--- these bytes were taken, and counted
+-- a read found the end, and was counted
+abbrev pub found_end : Input → Input
+found_end old = record old { ends = counted old.ends }
+
+-- these bytes were taken, and counted; no read found the end
 pub record Takes (old new : Input) (bytes : List ℕ) : Type 0 where
   pub left : old.left ≡ prepend_known bytes new.left
   pub given : new.given ≡ counted_by (length bytes) old.given
+  pub ends : new.ends ≡ old.ends
   pub faults : new.faults ≡ old.faults
 
--- a read took the bytes that it put into the buffer, none at the end alone; a failed one took nothing
+-- a read took the n bytes that it put into the buffer; one of none found the end, or the buffer has no room for any and nothing changed
+pub record Fills (old new : Input) (n : ℕ) (buf : List ℕ) : Type 0 where
+  pub some : 0 < n → Takes old new (take n buf)
+  pub end : n ≡ 0 → 0 < length buf → IsAtEnd old.left × (new ≡ found_end old)
+  pub none : length buf ≡ 0 → new ≡ old
+
+-- a read filled the buffer so far; a failed one took nothing
 abbrev pub Reads : {E : Type 0} → Input → Input → Result ℕ E → List ℕ → Type 0
-Reads old new result buf = MatchResult result
-    (λ n. Takes old new (take n buf) × (n ≡ 0 → 0 < length buf → IsAtEnd old.left))
-    (λ _. new ≡ failed_input old)
+Reads old new result buf = MatchResult result (λ n. Fills old new n buf) (λ _. new ≡ failed_input old)
 
 -- a text was written
 abbrev pub wrote : Output → List ℕ → Output

@@ -2,7 +2,7 @@
 use Rattle.std.specs.Prelude.{◌≡◌, ℕ, ◌<◌, ◌≤◌, true, false, List, Result, Ok, Err, length}
 use Rattle.std.specs.Io.KnownBytes.{IsAtEnd}
 use Rattle.pf_base.specs.Clauses.Objects.{Streams, StopsBy}
-use Rattle.pf_base.specs.Clauses.Told.{Takes, failed_input}
+use Rattle.pf_base.specs.Clauses.Told.{Takes, failed_input, found_end}
 use Rattle.pf_base.specs.declared.texts.SinkFault.{SinkFault}
 use Rattle.pf_smtp.specs.Clauses.Feeding.{Took, given, texts_given}
 use Rattle.pf_smtp.specs.declared.standing.Standing.{Standing}
@@ -32,7 +32,7 @@ pub record Stops (before now : Streams) (old : Standing) (most : ℕ) (why : Sin
 
 -- a read of at most so many bytes, and what the session made of it
 abbrev pub IsTurn : Streams → Streams → Standing → Standing → ℕ → Result Turn TalkFault → Type 0
-IsTurn before now old new most (Ok turn.End) = (now ≡ before) × (new ≡ old) × IsAtEnd before.input.left
+IsTurn before now old new most (Ok turn.End) = (now ≡ record before { input = found_end before.input }) × (new ≡ old) × IsAtEnd before.input.left
 IsTurn before now old new most (Ok (turn.More count)) = Passed before now old new count × (0 < count) × (count ≤ most) × (new.state.over ≡ false)
 IsTurn before now old new most (Ok (turn.Over count)) = Passed before now old new count × (count ≤ most) × (new.state.over ≡ true)
 IsTurn before now old new most (Err fault.Input) = (now ≡ record before { input = failed_input before.input }) × (new ≡ old)

@@ -4,7 +4,7 @@ use Rattle.pf_top.proofs.talk.take_turn.Goals as goal
 
 pub returns-in-Ok-More-clause-turn : goal.returns-in-Ok-More-clause-turn
 returns-in-Ok-More-clause-turn g c = (
-  record { taken = take c.in-Ok.count c.read.new.buf; is = sym c.in-Ok.ensures.bound.1; input = c.in-Ok.ensures.bytes.0; took = c.in-Ok-More.ensures.took },
+  record { taken = take c.in-Ok.count c.read.new.buf; is = sym c.in-Ok.ensures.bound.1; input = c.in-Ok.ensures.bytes.some (omega (arith, c.if-count-eq0.false)); took = c.in-Ok-More.ensures.took },
   omega (arith, c.if-count-eq0.false),
   omega (arith, c.in-Ok.ensures.bound.0, c.in-Ok.ensures.bound.1),
   going_more _ (sym c.in-Ok-More.field-0-is ∙ c.in-Ok-More.ensures.going),
@@ -12,7 +12,7 @@ returns-in-Ok-More-clause-turn g c = (
 
 pub returns-in-Ok-Over-clause-turn : goal.returns-in-Ok-Over-clause-turn
 returns-in-Ok-Over-clause-turn g c = (
-  record { taken = take c.in-Ok.count c.read.new.buf; is = sym c.in-Ok.ensures.bound.1; input = c.in-Ok.ensures.bytes.0; took = c.in-Ok-Over.ensures.took },
+  record { taken = take c.in-Ok.count c.read.new.buf; is = sym c.in-Ok.ensures.bound.1; input = c.in-Ok.ensures.bytes.some (omega (arith, c.if-count-eq0.false)); took = c.in-Ok-Over.ensures.took },
   omega (arith, c.in-Ok.ensures.bound.0, c.in-Ok.ensures.bound.1),
   going_over _ (sym c.in-Ok-Over.field-0-is ∙ c.in-Ok-Over.ensures.going),
 )
@@ -21,6 +21,6 @@ pub returns-in-Err-clause-turn : goal.returns-in-Err-clause-turn
 returns-in-Err-clause-turn g c = record {
   piece = take c.in-Ok.count c.read.new.buf;
   few = omega (arith, c.in-Ok.ensures.bound.0, c.in-Ok.ensures.bound.1);
-  input = c.in-Ok.ensures.bytes.0;
+  input = c.in-Ok.ensures.bytes.some (omega (arith, c.if-count-eq0.false));
   stops = c.in-Err.ensures.stops;
 }
