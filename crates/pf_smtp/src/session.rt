@@ -139,6 +139,7 @@ impl Session {
             (sinks (O.told out.new) (M.told mail.new) (J.told log.new)) self.old.standing self.new.standing piece.now) }
         ensures stops { IfErr result (λ fault. StopsBy fault (sinks (O.told out.old) (M.told mail.old) (J.told log.old))
             (sinks (O.told out.new) (M.told mail.new) (J.told log.new)) (texts_given self.old.standing piece.now)) }
+        ensures mail { M.told mail.new ≡ M.told mail.old }
         ensures begun { self.new.begun ≡ true }
         ensures going { IfOk result (λ going. going ≡ going_of self.new.standing.state) }
         ensures over { OnErr result (self.new.standing.state.over ≡ true) }
