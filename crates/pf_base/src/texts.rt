@@ -1,5 +1,6 @@
 //! The texts that are written to the sinks of a run.
 ghost use Rattle.std.specs.Prelude.{◌≡◌, [], IsOk};
+ghost use Rattle.pf_base.specs.Clauses.Objects as spec;
 ghost use Rattle.pf_base.specs.Clauses.Objects.{Says, log_text, out_text, sink_status, sinks, status_of};
 ghost use Rattle.pf_base.specs.Clauses.Told.{Output, Writes};
 
@@ -78,26 +79,31 @@ pub fn write_some<S: Sink>(sink: &mut S, text: &[u8]) -> Result<(), OuterFault>
     sink.write(text)
 }
 
-/// Writes a line to the log, unless it is empty.
-pub fn write_log<J: Sink>(log: &mut J, line: &[u8]) -> Result<(), SinkFault>
-    ensures { (out mail : Output) → Says (sinks out mail (J.told log.old)) (sinks out mail (J.told log.new)) (log_text line.now) result }
+// The answer of a write to the sink whose fault this is.
+fn blamed(failed: SinkFault, written: Result<(), OuterFault>) -> Result<(), SinkFault>
+    ensures { result ≡ spec.blamed failed written }
 {
-    match write_some(log, line) {
+    match written {
         Ok(()) => Ok(()),
-        Err(OuterFault::Failed) => Err(SinkFault::Log),
+        Err(OuterFault::Failed) => Err(failed),
         Err(OuterFault::NoMemory) => Err(SinkFault::NoMemory),
     }
 }
 
+/// Writes a line to the log, unless it is empty.
+pub fn write_log<J: Sink>(log: &mut J, line: &[u8]) -> Result<(), SinkFault>
+    ensures says { (out mail : Output) → Says (sinks out mail (J.told log.old)) (sinks out mail (J.told log.new)) (log_text line.now) result }
+    ensures nothing { line.now ≡ [] → IsOk result × (J.told log.new ≡ J.told log.old) }
+{
+    blamed(SinkFault::Log, write_some(log, line))
+}
+
 /// Writes a text to the output, unless it is empty.
 pub fn write_out<O: Sink>(out: &mut O, text: &[u8]) -> Result<(), SinkFault>
-    ensures { (mail log : Output) → Says (sinks (O.told out.old) mail log) (sinks (O.told out.new) mail log) (out_text text.now) result }
+    ensures says { (mail log : Output) → Says (sinks (O.told out.old) mail log) (sinks (O.told out.new) mail log) (out_text text.now) result }
+    ensures nothing { text.now ≡ [] → IsOk result × (O.told out.new ≡ O.told out.old) }
 {
-    match write_some(out, text) {
-        Ok(()) => Ok(()),
-        Err(OuterFault::Failed) => Err(SinkFault::Out),
-        Err(OuterFault::NoMemory) => Err(SinkFault::NoMemory),
-    }
+    blamed(SinkFault::Out, write_some(out, text))
 }
 
 /// Writes texts to the sinks that they are for, none where one is empty: that of the record before that of the log, and that of the
@@ -110,19 +116,7 @@ pub fn write_texts<O: Sink, M: Sink, J: Sink>(
 ) -> Result<(), SinkFault>
     ensures { Says (sinks (O.told out.old) (M.told mail.old) (J.told log.old)) (sinks (O.told out.new) (M.told mail.new) (J.told log.new)) texts.now result }
 {
-    match write_some(mail, texts.mail.as_slice()) {
-        Ok(()) => {}
-        Err(OuterFault::Failed) => return Err(SinkFault::Mail),
-        Err(OuterFault::NoMemory) => return Err(SinkFault::NoMemory),
-    }
-    match write_some(log, texts.log.as_slice()) {
-        Ok(()) => {}
-        Err(OuterFault::Failed) => return Err(SinkFault::Log),
-        Err(OuterFault::NoMemory) => return Err(SinkFault::NoMemory),
-    }
-    match write_some(out, texts.out.as_slice()) {
-        Ok(()) => Ok(()),
-        Err(OuterFault::Failed) => Err(SinkFault::Out),
-        Err(OuterFault::NoMemory) => Err(SinkFault::NoMemory),
-    }
+    blamed(SinkFault::Mail, write_some(mail, texts.mail.as_slice()))?;
+    blamed(SinkFault::Log, write_some(log, texts.log.as_slice()))?;
+    blamed(SinkFault::Out, write_some(out, texts.out.as_slice()))
 }

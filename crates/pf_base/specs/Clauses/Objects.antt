@@ -2,6 +2,8 @@
 -- standard; that the record of messages is written before the log and that before the output is postgate's own.
 use Rattle.std.specs.Prelude.{◌≡◌, ◌≢◌, ◌⊎◌, ℕ, List, [], ◌++◌, Result, Ok, Err, MatchResult}
 use Rattle.pf_base.specs.Clauses.Told.{HoldsFront, Input, Output, Tree, failed_output, wrote}
+use Rattle.pf_base.specs.declared.fault.OuterFault.{OuterFault}
+use Rattle.pf_base.specs.declared.fault.OuterFault.TheVariants as outer
 use Rattle.pf_base.specs.declared.status.TheConstants.{LOG_FAILED, MAIL_FAILED, NO_MEMORY, OUT_FAILED}
 use Rattle.pf_base.specs.declared.texts.SinkFault.{SinkFault}
 use Rattle.pf_base.specs.declared.texts.SinkFault.TheVariants as fault
@@ -69,6 +71,12 @@ StopsBy fault.Mail old new texts = (texts.mail ≢ []) × InMail (record old { m
 StopsBy fault.Log old new texts = (texts.log ≢ []) × InLog (record old { log = failed_output old.log }) new texts
 StopsBy fault.Out old new texts = (texts.out ≢ []) × InOut (record old { out = failed_output old.out }) new texts
 StopsBy fault.NoMemory old new texts = InMail old new texts ⊎ (InLog old new texts ⊎ InOut old new texts)
+
+-- the answer of a write to the sink whose fault this is
+abbrev pub blamed : {T : Type 0} → SinkFault → Result T OuterFault → Result T SinkFault
+blamed failed (Ok x) = Ok x
+blamed failed (Err outer.Failed) = Err failed
+blamed failed (Err outer.NoMemory) = Err fault.NoMemory
 
 -- texts were written whole, or a fault broke that off
 abbrev pub Says : {T : Type 0} → Sinks → Sinks → Texts → Result T SinkFault → Type 0
