@@ -1,5 +1,5 @@
 -- The statuses of runs and their causes. The statuses are postgate's own.
-use Rattle.std.specs.Prelude.{◌≡◌, ◌≢◌, ℕ, ◌==◌, Bool, true, List, [], ◌∷◌}
+use Rattle.std.specs.Prelude.{◌≡◌, ◌≢◌, ◌⊎◌, ℕ, ◌==◌, Bool, true, List, [], ◌∷◌, if◌then◌else◌}
 use Rattle.std.specs.List.{list_any}
 use Rattle.pf_base.specs.Clauses.Causes.{counted}
 use Rattle.pf_base.specs.Clauses.Objects.{Objects}
@@ -30,14 +30,20 @@ counts_of o = record {
   files = o.files.faults;
 }
 
--- the status of a failed call comes only where the count of its object rose, and a status without a fault only where none did
+-- a count, which went up by one where a fault came
+abbrev pub counted_if : Bool → ℕ → ℕ
+counted_if came count = if came then counted count else count
+
+-- each count is what it was, but where the status is that of a fault of its object it went up by one. That of the files may have gone up by one
+-- before another fault broke off the line that says so
 pub record HasCauses (before now : Counts) (status : ℕ) : Type 0 where
-  pub input : status ≡ INPUT_FAILED → now.input ≡ counted before.input
-  pub out : status ≡ OUT_FAILED → now.out ≡ counted before.out
-  pub mail : status ≡ MAIL_FAILED → now.mail ≡ counted before.mail
-  pub log : status ≡ LOG_FAILED → now.log ≡ counted before.log
+  pub input : now.input ≡ counted_if (status == INPUT_FAILED) before.input
+  pub out : now.out ≡ counted_if (status == OUT_FAILED) before.out
+  pub mail : now.mail ≡ counted_if (status == MAIL_FAILED) before.mail
+  pub log : now.log ≡ counted_if (status == LOG_FAILED) before.log
+  pub once : (now.files ≡ before.files) ⊎ (now.files ≡ counted before.files)
   pub files : status ≡ FILES_FAILED → now.files ≡ counted before.files
-  pub kept : is_among without_fault status ≡ true → now ≡ before
+  pub kept : is_among without_fault status ≡ true → now.files ≡ before.files
 
 -- no count rose
 pub record NoneRose (before now : Counts) : Type 0 where

@@ -76,6 +76,6 @@ module _ (words : ConfWords) (before now : Tree) (input : Input) (mail out log :
     kept = same;
     rest = (refl, refl);
     known = refl;
-    causes = starved_causes _ _;
+    causes = starved_causes _ _ refl refl refl refl (files_cause (conf_name words.folder) left.courses.course before now left.courses.leaves).once;
     complete = λ files told none. memory_is_free (said_in words files);
   }

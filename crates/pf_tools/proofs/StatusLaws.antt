@@ -50,14 +50,16 @@ status_known file c old new (Err fault.NoMemory) says = refl
 
 -- what the status of a course says of the files
 pub files_cause : (file : List ℕ) (c : Course) (before now : Tree) → Leaves file c before now → FilesCause before now (course_status c)
-files_cause file (course.prints lines warnings) before now left = record { failed = λ is. absurd (by_warnings (λ s. s ≡ 8 → ⊥) (λ e. cc) (λ e. cc) warnings is); kept = λ is. left.1 }
-files_cause file (course.edits text) before now left = record { failed = λ is. cc; kept = λ is. left.1 }
-files_cause file (course.refuses refusal) before now left = record { failed = λ is. cc; kept = λ is. left.1 }
-files_cause file course.unread before now left = record { failed = λ is. left.1; kept = λ is. cc }
-files_cause file (course.unreplaced text) before now (inl left) = record { failed = λ is. left.1; kept = λ is. cc }
-files_cause file (course.unreplaced text) before now (inr left) = record { failed = λ is. left.1; kept = λ is. cc }
-files_cause file course.starves before now left = record { failed = λ is. cc; kept = λ is. left.1 }
-files_cause file (course.starves_editing text) before now left = record { failed = λ is. cc; kept = λ is. cc }
+files_cause file (course.prints lines warnings) before now left =
+    record { once = inl left.1; failed = λ is. absurd (by_warnings (λ s. s ≡ 8 → ⊥) (λ e. cc) (λ e. cc) warnings is); kept = λ is. left.1 }
+files_cause file (course.edits text) before now left = record { once = inl left.1; failed = λ is. cc; kept = λ is. left.1 }
+files_cause file (course.refuses refusal) before now left = record { once = inl left.1; failed = λ is. cc; kept = λ is. left.1 }
+files_cause file course.unread before now left = record { once = inr left.1; failed = λ is. left.1; kept = λ is. cc }
+files_cause file (course.unreplaced text) before now (inl left) = record { once = inr left.1; failed = λ is. left.1; kept = λ is. cc }
+files_cause file (course.unreplaced text) before now (inr left) = record { once = inr left.1; failed = λ is. left.1; kept = λ is. cc }
+files_cause file course.starves before now left = record { once = inl left.1; failed = λ is. cc; kept = λ is. left.1 }
+files_cause file (course.starves_editing text) before now (inl left) = record { once = inl left.1; failed = λ is. cc; kept = λ is. cc }
+files_cause file (course.starves_editing text) before now (inr left) = record { once = inl left.1; failed = λ is. cc; kept = λ is. cc }
 
 -- memory may be wanting whatever is said
 pub memory_is_free : (answer : Result Said Refused) → is_among (statuses_by answer) 9 ≡ true

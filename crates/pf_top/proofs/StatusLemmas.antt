@@ -1,20 +1,19 @@
 -- The status of a run by its course.
 use Rattle.std.proofs.Common.{◌≡◌, ℕ, true, List, [], ◌∷◌, ◌++◌, Some, Result, Ok, Err, inl, inr, refl, sym, ap, subst, ◌∙◌}
-use Rattle.std.specs.Io.KnownBytes.{append_known}
-use Rattle.std.specs.List.{flat_map}
 use Rattle.std.specs.Prelude.{⊤}
-use Rattle.pf_base.proofs.StatusLemmas.{counts_same, kept_causes, none_stopped, said_causes, said_record, starved_causes, stops_causes, stops_record}
-use Rattle.pf_base.proofs.ToldLemmas.{append_known-nil}
+use Rattle.pf_base.proofs.StatusLemmas.{counts_same, kept_causes, none_failed, none_stopped, said_causes, said_record, starved_causes, stops_causes, stops_record}
+use Rattle.pf_base.proofs.ToldLemmas.{wrote_none}
 use Rattle.pf_base.specs.Clauses.Causes.{counted}
 use Rattle.pf_base.specs.Clauses.Objects.{Objects, Streams, log_text, out_text, sink_status, status_of}
+use Rattle.pf_base.specs.Clauses.Told.{wrote}
 use Rattle.pf_base.specs.Statuses.{HasCauses, NoneRose, counts_of, is_among}
 use Rattle.pf_base.specs.declared.pair.Pair.{Pair}
 use Rattle.pf_base.specs.declared.refused.Refused.{Refused}
 use Rattle.pf_base.specs.declared.texts.SinkFault.{SinkFault}
 use Rattle.pf_base.specs.declared.texts.SinkFault.TheVariants as sink
+use Rattle.pf_smtp.proofs.PieceLemmas.{no_records}
 use Rattle.pf_smtp.specs.Session.{session}
-use Rattle.pf_smtp.specs.Text.{greeting_of, record_text}
-use Rattle.pf_smtp.specs.declared.record_line.RecordLine.{RecordLine}
+use Rattle.pf_smtp.specs.Text.{greeting_of}
 use Rattle.pf_smtp.specs.declared.state.Setup.{Setup}
 use Rattle.pf_top.specs.Opening.{setup_of}
 use Rattle.pf_top.specs.Run.{Unformed, usage_line}
@@ -46,25 +45,19 @@ ended_faults ended.AtEnd ends = ap (λ w. w.input.faults) ends.0
 ended_faults ended.AtOver ends = ap (λ w. w.input.faults) ends.0
 ended_faults ended.AtBudget ends = ap (λ w. w.input.faults) ends.0
 
--- no verb gives a record line
-no_records : (records : List RecordLine) → flat_map record_text records ≡ []
-no_records [] = refl
-no_records (record_line ∷ records) = elim record_line [ ]
-
 module _ (setup : Setup) where
   said_none : (taken : List ℕ) → ((speech_of setup).said taken).mail ≡ []
   said_none taken = no_records (session setup taken).records
 
-  talks_record : (before now : Streams) (taken : List ℕ) → Talks (speech_of setup) before now taken → now.sinks.mail.written ≡ before.sinks.mail.written
-  talks_record before now taken talks =
-      ap (λ s. s.mail.written) talks.sinks ∙ ap (append_known before.sinks.mail.written) (said_none taken) ∙ append_known-nil before.sinks.mail.written
+  talks_record : (before now : Streams) (taken : List ℕ) → Talks (speech_of setup) before now taken → now.sinks.mail ≡ before.sinks.mail
+  talks_record before now taken talks = ap (λ s. s.mail) talks.sinks ∙ ap (wrote before.sinks.mail) (said_none taken) ∙ wrote_none before.sinks.mail
 
   cut_none : {budget : ℕ} {before now : Streams} {why : SinkFault} (cut : TalksCut (speech_of setup) budget before now why) → cut.texts.mail ≡ []
   cut_none cut = sym (ap (λ x. x ++ cut.texts.mail) (said_none cut.earlier)) ∙ sym (ap (λ t. t.mail) cut.adds) ∙ said_none (cut.earlier ++ cut.piece)
 
-  talk_record : (budget : ℕ) (before now : Streams) (result : Result Ended TalkFault) → HasSession setup budget before now result → now.sinks.mail.written ≡ before.sinks.mail.written
-  talk_record budget before now (Ok how) t = ap (λ s. s.mail.written) (ended_sinks how t.ends) ∙ talks_record before t.mid t.taken t.talks
-  talk_record budget before now (Err fault.Input) t = ap (λ w. w.sinks.mail.written) t.broken ∙ talks_record before t.mid t.taken t.talks
+  talk_record : (budget : ℕ) (before now : Streams) (result : Result Ended TalkFault) → HasSession setup budget before now result → now.sinks.mail ≡ before.sinks.mail
+  talk_record budget before now (Ok how) t = ap (λ s. s.mail) (ended_sinks how t.ends) ∙ talks_record before t.mid t.taken t.talks
+  talk_record budget before now (Err fault.Input) t = ap (λ w. w.sinks.mail) t.broken ∙ talks_record before t.mid t.taken t.talks
   talk_record budget before now (Err (fault.Sink why)) (inl t) = stops_record before.sinks now.sinks (out_text (greeting_of setup.banner)) why refl t.stops
   talk_record budget before now (Err (fault.Sink why)) (inr t) = stops_record t.mid.sinks now.sinks t.texts why (cut_none t) t.stops ∙ talks_record before t.mid t.earlier t.talks
 
@@ -82,17 +75,20 @@ module _ (setup : Setup) where
       let same = ended ∙ talks_counts before mid t.taken t.talks files in
       by_ended (HasCauses (counts_of before) (counts_of now)) (kept_causes _ _ 0 same refl) (kept_causes _ _ 10 same refl) how
   talk_causes budget before now (Err fault.Input) t files = record {
-    input = λ is. ap (λ w. w.input.faults) t.broken ∙ ap counted t.talks.input.faults;
-    out = λ is. cc;
-    mail = λ is. cc;
-    log = λ is. cc;
+    input = ap (λ w. w.input.faults) t.broken ∙ ap counted t.talks.input.faults;
+    out = ap (λ w. w.sinks.out.faults) t.broken ∙ ap (λ s. s.out.faults) t.talks.sinks;
+    mail = ap (λ w. w.sinks.mail.faults) t.broken ∙ ap (λ s. s.mail.faults) t.talks.sinks;
+    log = ap (λ w. w.sinks.log.faults) t.broken ∙ ap (λ s. s.log.faults) t.talks.sinks;
+    once = inl files;
     files = λ is. cc;
     kept = λ is. cc;
   }
-  talk_causes budget before now (Err (fault.Sink why)) (inl t) files = stops_causes before now why (out_text (greeting_of setup.banner)) t.stops
+  talk_causes budget before now (Err (fault.Sink why)) (inl t) files =
+      stops_causes before now why (out_text (greeting_of setup.banner)) t.stops (ap (λ i. i.faults) t.input) (inl files)
   talk_causes budget before now (Err (fault.Sink why)) (inr t) files =
       let mid : Objects = record { streams = t.mid; files = before.files } in
-      subst (λ k. HasCauses k (counts_of now) (sink_status why)) (talks_counts before mid t.earlier t.talks refl) (stops_causes mid now why t.texts t.stops)
+      subst (λ k. HasCauses k (counts_of now) (sink_status why)) (talks_counts before mid t.earlier t.talks refl)
+      (stops_causes mid now why t.texts t.stops t.input.faults (inl files))
 
 sink_known : (why : SinkFault) → is_among statuses (sink_status why) ≡ true
 sink_known sink.Out = refl
@@ -106,11 +102,11 @@ memory_is_free (Ok opening) = refl
 memory_is_free (Err refusal) = refl
 
 module _ (words : SmtpdWords) (before now : Objects) where
-  course_record : (c : Course) → Leaves words before now c → now.streams.sinks.mail.written ≡ before.streams.sinks.mail.written
+  course_record : (c : Course) → Leaves words before now c → now.streams.sinks.mail ≡ before.streams.sinks.mail
   course_record (course.talks opening result) left = talk_record (setup_of opening words.client) words.budget before.streams now.streams result left.2
   course_record (course.refuses refusal said) left = said_record before.streams.sinks now.streams.sinks (log_text _) said refl left.2.says
   course_record (course.unread said) left = said_record before.streams.sinks now.streams.sinks (log_text _) said refl left.1.says
-  course_record course.starves left = ap (λ s. s.sinks.mail.written) left.1
+  course_record course.starves left = ap (λ s. s.sinks.mail) left.1
 
   course_known : (c : Course) → is_among statuses (course_status c) ≡ true
   course_known (course.talks opening (Ok how)) = by_ended (λ s. is_among statuses s ≡ true) refl refl how
@@ -124,16 +120,20 @@ module _ (words : SmtpdWords) (before now : Objects) where
 
   course_causes : (c : Course) → Leaves words before now c → HasCauses (counts_of before) (counts_of now) (course_status c)
   course_causes (course.talks opening result) left = talk_causes (setup_of opening words.client) words.budget before now result left.2 left.1.1
-  course_causes (course.refuses refusal said) left = said_causes before now 3 said (log_text _) left.2.input left.2.says refl (record { failed = λ is. cc; kept = λ is. left.1.1 })
-  course_causes (course.unread said) left = said_causes before now 8 said (log_text _) left.1.input left.1.says refl (record { failed = λ is. left.0.1; kept = λ is. cc })
-  course_causes course.starves left = starved_causes (counts_of before) (counts_of now)
+  course_causes (course.refuses refusal said) left = said_causes before now 3 said (log_text _) left.2.input left.2.says refl
+      (record { once = inl left.1.1; failed = λ is. cc; kept = λ is. left.1.1 })
+  course_causes (course.unread said) left = said_causes before now 8 said (log_text _) left.1.input left.1.says refl
+      (record { once = inr left.0.1; failed = λ is. left.0.1; kept = λ is. cc })
+  course_causes course.starves left =
+      starved_causes (counts_of before) (counts_of now) (ap (λ s. s.input.faults) left.1) (ap (λ s. s.sinks.out.faults) left.1)
+      (ap (λ s. s.sinks.mail.faults) left.1) (ap (λ s. s.sinks.log.faults) left.1) (inl left.0.1)
 
   -- where no call failed, the status is that of what main.cf says
   completes : (c : Course) → Leaves words before now c → (status : ℕ) → status ≡ course_status c → HasCauses (counts_of before) (counts_of now) status
       → (files : List Pair) → before.files.content ≡ Some files → NoneRose (counts_of before) (counts_of now) → is_among (statuses_by (opened_in words files)) status ≡ true
   completes (course.talks opening (Ok how)) left status is causes files told none =
       rw (is, left.0 files told) (by_ended (λ s. is_among (0 ∷ 10 ∷ 9 ∷ []) s ≡ true) refl refl how)
-  completes (course.talks opening (Err fault.Input)) left status is causes files told none = absurd (none.input (causes.input is))
+  completes (course.talks opening (Err fault.Input)) left status is causes files told none = absurd (none_failed is causes none)
   completes (course.talks opening (Err (fault.Sink why))) left status is causes files told none = rw (none_stopped why is causes none) (memory_is_free (opened_in words files))
   completes (course.refuses refusal (Ok x)) left status is causes files told none = rw (is, left.0 files told) refl
   completes (course.refuses refusal (Err why)) left status is causes files told none = rw (none_stopped why is causes none) (memory_is_free (opened_in words files))
@@ -172,5 +172,5 @@ said_usage before now status said is line files = record {
   files = files;
   known = subst (λ s. is_among (2 ∷ 7 ∷ 9 ∷ []) s ≡ true) (sym is) (usage_known before.streams now.streams said line);
   causes = subst (HasCauses (counts_of before) (counts_of now)) (sym is)
-      (said_causes before now 2 said (log_text usage_line) line.input line.says refl (record { failed = λ is. cc; kept = λ is. ap (λ t. t.faults) files }));
+      (said_causes before now 2 said (log_text usage_line) line.input line.says refl (record { once = inl (ap (λ t. t.faults) files); failed = λ is. cc; kept = λ is. ap (λ t. t.faults) files }));
 }

@@ -85,7 +85,7 @@ pub record SmtpdRun (words : SmtpdWords) (before now : Objects) (status : ℕ) :
   pub status_is : status ≡ course_status course
   pub leaves : Leaves words before now course
   -- no verb of today gives a record line
-  pub mail : now.streams.sinks.mail.written ≡ before.streams.sinks.mail.written
+  pub mail : now.streams.sinks.mail ≡ before.streams.sinks.mail
   -- which statuses there are, and why
   pub known : is_among statuses status ≡ true
   pub causes : HasCauses (counts_of before) (counts_of now) status
