@@ -2,6 +2,7 @@
 use Rattle.std.proofs.Common.{◌≡◌, ℕ, ◌+◌, ◌-◌, ◌≤◌, false, true, List, [], ◌∷◌, ◌++◌, length, take, min, refl, sym, ap, subst, ◌∙◌, arith, append_assoc, append-nil}
 use Rattle.std.proofs.lemmas.List.{take_min}
 use Rattle.std.proofs.lemmas.List.Concat.{flat_map-append}
+use Rattle.std.specs.List.{flat_map}
 use Rattle.std.proofs.Math.Seq.{take-append-add}
 use Rattle.pf_base.specs.Lines.{lines, rest}
 use Rattle.pf_base.specs.Clauses.Pieces.{onto_line, unless_line}
@@ -13,6 +14,7 @@ use Rattle.pf_smtp.specs.Clauses.Feeding.{given, part_behind, texts_of}
 use Rattle.pf_smtp.specs.Session.{stays, before, steps, replies_text, records_text, log_text}
 use Rattle.pf_smtp.specs.Step.{Step}
 use Rattle.pf_smtp.specs.Text.{text_of, record_text, log_line}
+use Rattle.pf_smtp.specs.declared.record_line.RecordLine.{RecordLine}
 use Rattle.pf_smtp.specs.declared.standing.Standing.{Standing}
 use Rattle.pf_smtp.specs.declared.state.Setup.{Setup}
 use Rattle.pf_smtp.specs.declared.state.State.{State}
@@ -42,6 +44,15 @@ records_text-before a b = flat_map-append record_text a.records b.records
 
 pub log_text-before : (a b : Step) → log_text (before a b) ≡ log_text a ++ log_text b
 log_text-before a b = flat_map-append log_line a.entries b.entries
+
+-- no verb of today gives a record line
+pub no_records : (records : List RecordLine) → flat_map record_text records ≡ []
+no_records [] = refl
+no_records (line ∷ records) = elim line [ ]
+
+pub no_record : {before now : Texts} {old new : Standing} {piece : List ℕ} → before.mail ≡ [] → AnswersPiece before now old new piece → now.mail ≡ []
+no_record {old = old} {piece = piece} none answers =
+    ap (λ t. t.mail) answers.texts ∙ ap (λ m. m ++ records_text (given old piece)) none ∙ no_records (given old piece).records
 
 -- what two steps in turn have it write
 pub texts-before : (setup : Setup) (a b : Step) → texts_of setup (before a b) ≡ joined (texts_of setup a) (texts_of setup b)

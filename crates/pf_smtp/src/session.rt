@@ -36,6 +36,7 @@ impl Standing {
             (sinks (O.told out.new) (M.told mail.new) (J.told log.new)) self.old self.new piece.now) }
         ensures stops { IfErr result (λ fault. StopsBy fault (sinks (O.told out.old) (M.told mail.old) (J.told log.old))
             (sinks (O.told out.new) (M.told mail.new) (J.told log.new)) (texts_given self.old piece.now)) }
+        ensures mail { M.told mail.new ≡ M.told mail.old }
     {
         let mut texts = Texts::new(alloc);
         let Ok(()) = self.take_piece(alloc, piece, &mut texts) else {
@@ -123,9 +124,8 @@ impl Session {
     }
 
     /// Takes the next piece of the input, of any size, behind the greeting, and answers the lines that end in it: the record lines
-    /// first, then the log lines, then the replies, each in one write. After a fault a front of them was written, nothing to a sink
-    /// behind the one that failed, and the session is over. Once it is over, it writes nothing and answers `Over`. No verb of today
-    /// gives a record line.
+    /// first, then the log lines, then the replies. After a fault a front of them was written, nothing to a sink behind the one that
+    /// failed, and the session is over. Once it is over, it writes nothing and answers `Over`. No verb of today gives a record line.
     pub fn feed<O: Sink, M: Sink, J: Sink>(
         &mut self,
         alloc: Global,
