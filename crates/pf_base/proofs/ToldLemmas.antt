@@ -50,8 +50,9 @@ takes_more {a} {b} {c} {xs} {ys} first second = record {
   left = first.left ∙ ap (prepend_known xs) second.left ∙ prepend_known-append xs ys c.left;
   given = omega (arith, first.given, second.given, length-append xs ys);
   ends = second.ends ∙ first.ends;
+  ended = second.ended ∙ first.ended;
   faults = second.faults ∙ first.faults;
 }
 
 pub takes_none : (old : Input) → Takes old old []
-takes_none old = record { left = sym (prepend_known-nil old.left); given = omega arith; ends = refl; faults = refl }
+takes_none old = record { left = sym (prepend_known-nil old.left); given = omega arith; ends = refl; ended = refl; faults = refl }

@@ -81,6 +81,7 @@ pub struct MemSource {
     at: usize,
     given: u64,
     ends: u64,
+    ended: u64,
     cuts: List<u64>,
     schedule: Schedule,
 }
@@ -95,6 +96,7 @@ impl Model for MemSource {
       left = drop source.at source.bytes;
       given = source.given;
       ends = source.ends;
+      ended = source.ended;
       cuts = source.cuts;
       calls = source.schedule;
     } };
@@ -108,13 +110,14 @@ impl MemSource {
     /// These bytes. `cuts` are the greatest sizes of successive reads in bytes, the last one repeated; a cut of 0 counts
     /// as 1, and an empty list sets no limit. `failing` are the numbers, from 1, of the reads that fail.
     pub fn new(bytes: Bytes, cuts: List<u64>, failing: List<u64>) -> MemSource
-        ensures { result ≡ record { left = bytes; given = 0; ends = 0; cuts = cuts; calls = none_made failing } }
+        ensures { result ≡ record { left = bytes; given = 0; ends = 0; ended = 0; cuts = cuts; calls = none_made failing } }
     {
         MemSource {
             bytes,
             at: 0,
             given: 0,
             ends: 0,
+            ended: 0,
             cuts,
             schedule: Schedule::new(failing),
         }
@@ -161,6 +164,7 @@ impl Source for MemSource {
         let count = copy_front(buf, left, greatest);
         if count == 0 {
             self.ends = self.ends.saturating_add(1);
+            self.ended = self.given;
             return Ok(0);
         }
         self.at += count;

@@ -11,8 +11,8 @@ use crate::fault::{Failed, OuterFault};
 
 /// Where bytes come from.
 pub trait Source {
-    /// The bytes that are left, where it tells them, how many were given, how often a read has found the end, and how often one
-    /// has failed.
+    /// The bytes that are left, where it tells them, how many were given, how often a read has found the end, how many were given
+    /// before it last did, and how often one has failed.
     ghost told: { Self → Input };
 
     /// Reads some bytes into the buffer and says how many: 0 at the end alone, where the buffer is not empty. A read that finds

@@ -17,6 +17,7 @@ pub struct Reading<R: Drop> {
     reader: R,
     given: u64,
     ends: u64,
+    ended: u64,
     faults: u64,
 }
 
@@ -26,19 +27,21 @@ impl<R: Drop> Reading<R> {
             reader,
             given: 0,
             ends: 0,
+            ended: 0,
             faults: 0,
         }
     }
 }
 
 impl<R: Read + Drop> Source for Reading<R> {
-    ghost told = { λ source. record { left = None; given = source.given; ends = source.ends; faults = source.faults } };
+    ghost told = { λ source. record { left = None; given = source.given; ends = source.ends; ended = source.ended; faults = source.faults } };
 
     fn read(&mut self, buf: &mut [u8]) -> Result<usize, Failed> {
         match self.reader.read(buf) {
             Ok(count) => {
                 if count == 0 && !buf.is_empty() {
                     self.ends = self.ends.saturating_add(1);
+                    self.ended = self.given;
                     return Ok(0);
                 }
                 self.given = self.given.saturating_add(count as u64);

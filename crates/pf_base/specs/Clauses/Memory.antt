@@ -32,11 +32,13 @@ pub record CountsCall (old new : Calls) (fails : Bool) : Type 0 where
 abbrev pub MakesCall : Calls → Calls → Type 0
 MakesCall old new = CountsCall old new (fails_next old)
 
--- a source: the bytes that are left, how many were given, how often a read found the end, the greatest sizes of reads in turn, and the calls
+-- a source: the bytes that are left, how many were given, how often a read found the end, how many had been given then, the greatest sizes of
+-- reads in turn, and the calls
 pub record MemorySource : Type 0 where
   pub left : List ℕ
   pub given : ℕ
   pub ends : ℕ
+  pub ended : ℕ
   pub cuts : List ℕ
   pub calls : Calls
 
@@ -53,7 +55,7 @@ pub record MemoryFiles : Type 0 where
 
 -- what they tell
 abbrev pub source_told : MemorySource → Input
-source_told source = record { left = Some source.left; given = source.given; ends = source.ends; faults = source.calls.faults }
+source_told source = record { left = Some source.left; given = source.given; ends = source.ends; ended = source.ended; faults = source.calls.faults }
 
 abbrev pub sink_told : MemorySink → Output
 sink_told sink = record { written = Some sink.written; faults = sink.calls.faults }

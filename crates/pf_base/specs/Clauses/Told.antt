@@ -11,11 +11,13 @@ use Rattle.pf_base.specs.declared.pair.Pair.{Pair}
 use Rattle.pf_base.specs.declared.reading.ReadFault.{ReadFault}
 use Rattle.pf_base.specs.declared.reading.ReadFault.TheVariants.{Failed as ReadFailed, TooLarge, NoMemory as ReadNoMemory}
 
--- where bytes come from: those that are left, how many were given, how often a read found the end, and how often one failed
+-- where bytes come from: those that are left, how many were given, how often a read found the end, how many had been given when one did so last,
+-- and how often one failed
 pub record Input : Type 0 where
   pub left : Option (List ℕ)
   pub given : ℕ
   pub ends : ℕ
+  pub ended : ℕ
   pub faults : ℕ
 
 -- where bytes go: those that were written, and how often a write failed
@@ -41,13 +43,14 @@ failed_tree old = record old { faults = counted old.faults }
 
 -- a read found the end, and was counted
 abbrev pub found_end : Input → Input
-found_end old = record old { ends = counted old.ends }
+found_end old = record old { ends = counted old.ends; ended = old.given }
 
 -- these bytes were taken, and counted; no read found the end
 pub record Takes (old new : Input) (bytes : List ℕ) : Type 0 where
   pub left : old.left ≡ prepend_known bytes new.left
   pub given : new.given ≡ counted_by (length bytes) old.given
   pub ends : new.ends ≡ old.ends
+  pub ended : new.ended ≡ old.ended
   pub faults : new.faults ≡ old.faults
 
 -- a read took the n bytes that it put into the buffer; one of none found the end, or the buffer has no room for any and nothing changed
