@@ -34,16 +34,16 @@ by_ended P done budget ended.AtOver = done
 by_ended P done budget ended.AtBudget = budget
 
 -- the end that a read found changes no sink, and no count of faults
-ended_sinks : {speech : Speech} {budget : ℕ} {mid now : Streams} {taken : List ℕ} (how : Ended) → EndsAs speech budget mid now taken how → now.sinks ≡ mid.sinks
-ended_sinks ended.AtEnd ends = ap (λ w. w.sinks) ends.0
-ended_sinks ended.AtOver ends = ap (λ w. w.sinks) ends.0
-ended_sinks ended.AtBudget ends = ap (λ w. w.sinks) ends.0
+module _ (speech : Speech) (budget : ℕ) (mid now : Streams) (taken : List ℕ) where
+  ended_sinks : (how : Ended) → EndsAs speech budget mid now taken how → now.sinks ≡ mid.sinks
+  ended_sinks ended.AtEnd ends = ap (λ w. w.sinks) ends.0
+  ended_sinks ended.AtOver ends = ap (λ w. w.sinks) ends.0
+  ended_sinks ended.AtBudget ends = ap (λ w. w.sinks) ends.0
 
-ended_faults : {speech : Speech} {budget : ℕ} {mid now : Streams} {taken : List ℕ} (how : Ended) → EndsAs speech budget mid now taken how
-    → now.input.faults ≡ mid.input.faults
-ended_faults ended.AtEnd ends = ap (λ w. w.input.faults) ends.0
-ended_faults ended.AtOver ends = ap (λ w. w.input.faults) ends.0
-ended_faults ended.AtBudget ends = ap (λ w. w.input.faults) ends.0
+  ended_faults : (how : Ended) → EndsAs speech budget mid now taken how → now.input.faults ≡ mid.input.faults
+  ended_faults ended.AtEnd ends = ap (λ w. w.input.faults) ends.0
+  ended_faults ended.AtOver ends = ap (λ w. w.input.faults) ends.0
+  ended_faults ended.AtBudget ends = ap (λ w. w.input.faults) ends.0
 
 module _ (setup : Setup) where
   said_none : (taken : List ℕ) → ((speech_of setup).said taken).mail ≡ []
@@ -56,7 +56,8 @@ module _ (setup : Setup) where
   cut_none cut = sym (ap (λ x. x ++ cut.texts.mail) (said_none cut.earlier)) ∙ sym (ap (λ t. t.mail) cut.adds) ∙ said_none (cut.earlier ++ cut.piece)
 
   talk_record : (budget : ℕ) (before now : Streams) (result : Result Ended TalkFault) → HasSession setup budget before now result → now.sinks.mail ≡ before.sinks.mail
-  talk_record budget before now (Ok how) t = ap (λ s. s.mail) (ended_sinks how t.ends) ∙ talks_record before t.mid t.taken t.talks
+  talk_record budget before now (Ok how) t =
+      ap (λ s. s.mail) (ended_sinks (speech_of setup) budget t.mid now t.taken how t.ends) ∙ talks_record before t.mid t.taken t.talks
   talk_record budget before now (Err fault.Input) t = ap (λ w. w.sinks.mail) t.broken ∙ talks_record before t.mid t.taken t.talks
   talk_record budget before now (Err (fault.Sink why)) (inl t) = stops_record before.sinks now.sinks (out_text (greeting_of setup.banner)) why refl t.stops
   talk_record budget before now (Err (fault.Sink why)) (inr t) = stops_record t.mid.sinks now.sinks t.texts why (cut_none t) t.stops ∙ talks_record before t.mid t.earlier t.talks
@@ -70,8 +71,10 @@ module _ (setup : Setup) where
       → HasCauses (counts_of before) (counts_of now) (talk_status result)
   talk_causes budget before now (Ok how) t files =
       let mid : Objects = record { streams = t.mid; files = now.files } in
-      let ended : counts_of now ≡ counts_of mid = counts_same (ended_faults how t.ends) (ap (λ s. s.out.faults) (ended_sinks how t.ends))
-      (ap (λ s. s.mail.faults) (ended_sinks how t.ends)) (ap (λ s. s.log.faults) (ended_sinks how t.ends)) refl in
+      let sinks = ended_sinks (speech_of setup) budget t.mid now.streams t.taken how t.ends in
+      let input = ended_faults (speech_of setup) budget t.mid now.streams t.taken how t.ends in
+      let ended : counts_of now ≡ counts_of mid =
+      counts_same input (ap (λ s. s.out.faults) sinks) (ap (λ s. s.mail.faults) sinks) (ap (λ s. s.log.faults) sinks) refl in
       let same = ended ∙ talks_counts before mid t.taken t.talks files in
       by_ended (HasCauses (counts_of before) (counts_of now)) (kept_causes _ _ 0 same refl) (kept_causes _ _ 10 same refl) how
   talk_causes budget before now (Err fault.Input) t files = record {

@@ -31,7 +31,7 @@ returns-clause-bytes c =
         left = ap Some (copied_front c.self.inside.bytes c.copy_front-count.new.buf c.self.inside.at c.copy_front-count.result copied);
         given = omega (arith, c.self.ranges, length-take c.copy_front-count.result c.copy_front-count.new.buf, count);
         ends = refl;
-          ended = refl;
+        ended = refl;
         faults = c.next.ensures.kept c.if-next.false;
       };
       end = λ none room. absurd (omega (arith, none, c.if-count-eq0.false));
