@@ -4,7 +4,7 @@ use Rattle.std.specs.List.{list_all}
 use Rattle.pf_base.specs.declared.logical.Logical.{Logical}
 use Rattle.pf_base.specs.declared.refused.Cause.TheVariants.{C1, C2, C3}
 use Rattle.pf_maincf.specs.Edit.{AreSets, Line, blocks_from, differ, edited, edited_by, is_ended, is_set, lines_in, placed, set_line}
-use Rattle.pf_maincf.specs.Settings.{before, conf_of, conf_with, is_name, is_name_byte, last_setting, or_refused, refused, setting_of, settings_in, settings_of}
+use Rattle.pf_maincf.specs.Settings.{conf_of, conf_with, is_name, is_name_byte, last_setting, or_refused, refused, setting_of, settings_in, settings_of}
 use Rattle.pf_maincf.specs.declared.setting.Setting.{Setting}
 
 -- two settings, and a line without an equals sign
@@ -57,29 +57,14 @@ bytes_of_names = refl
 names_nothing : refused (codes "main.cf") 5 C2 ≡ record { file = codes "main.cf"; line = 5; cause = C2; name = [] }
 names_nothing = refl
 
--- settings before others
-front_first : before (first ∷ []) (Ok (second ∷ [])) ≡ Ok (first ∷ second ∷ [])
-front_first = refl
-
-refusal_behind : before (first ∷ []) (Err (refused (codes "main.cf") 5 C2)) ≡ Err (refused (codes "main.cf") 5 C2)
-refusal_behind = refl
-
 -- a setting or its refusal
-setting_before_others : or_refused (codes "main.cf") bare (Some first) (Ok (second ∷ [])) ≡ Ok (first ∷ second ∷ [])
-setting_before_others = refl
+setting_of_a_line : or_refused (codes "main.cf") bare (Some first) ≡ Ok first
+setting_of_a_line = refl
 
-setting_before_a_refusal : or_refused (codes "main.cf") bare (Some first) (Err (refused (codes "main.cf") 7 C3)) ≡ Err (refused (codes "main.cf") 7 C3)
-setting_before_a_refusal = refl
-
-refusal_at_the_first_physical_line : or_refused (codes "main.cf") bare None (Ok (second ∷ []))
-    ≡ Err (record { file = codes "main.cf"; line = 5; cause = C2; name = [] })
+refusal_at_the_first_physical_line : or_refused (codes "main.cf") bare None ≡ Err (record { file = codes "main.cf"; line = 5; cause = C2; name = [] })
 refusal_at_the_first_physical_line = refl
 
-refusal_before_a_refusal : or_refused (codes "main.cf") bare None (Err (refused (codes "main.cf") 7 C3))
-    ≡ Err (record { file = codes "main.cf"; line = 5; cause = C2; name = [] })
-refusal_before_a_refusal = refl
-
-bad_name : or_refused (codes "main.cf") bare (Some (record { line = 5; name = []; value = codes "1" })) (Ok (second ∷ []))
+bad_name : or_refused (codes "main.cf") bare (Some (record { line = 5; name = []; value = codes "1" }))
     ≡ Err (record { file = codes "main.cf"; line = 5; cause = C3; name = [] })
 bad_name = refl
 
