@@ -20,7 +20,7 @@ use Rattle.pf_params.specs.Settled.{Settled}
 use Rattle.pf_tools.specs.Asked.{asked_names, is_known, is_shown, shown_names}
 use Rattle.pf_tools.specs.Course.{Course, bytes_in, conf_name, course_status, log_of, output_of}
 use Rattle.pf_tools.specs.Course.{Course as course}
-use Rattle.pf_tools.specs.Order.{in_order}
+use Rattle.pf_tools.specs.Clauses.Ordering.{in_order}
 use Rattle.pf_tools.specs.Printed.{line_text, lines_of}
 use Rattle.pf_tools.specs.Run.{statuses_by}
 use Rattle.pf_tools.specs.Said.{edited_by, file_said, printed, printed_of}
@@ -46,7 +46,7 @@ site = record {
 }
 
 -- names in order
-order : map in_order ((codes "b" ∷ codes "a" ∷ codes "b" ∷ codes "ab" ∷ []) ∷ (codes "B" ∷ codes "a" ∷ [] ∷ codes "_" ∷ []) ∷ [])
+order : map (λ names. (in_order names).list) ((codes "b" ∷ codes "a" ∷ codes "b" ∷ codes "ab" ∷ []) ∷ (codes "B" ∷ codes "a" ∷ [] ∷ codes "_" ∷ []) ∷ [])
     ≡ (codes "a" ∷ codes "ab" ∷ codes "b" ∷ []) ∷ ([] ∷ codes "B" ∷ codes "_" ∷ codes "a" ∷ []) ∷ []
 order = refl
 
