@@ -2,6 +2,7 @@
 use Rattle.std.proofs.Common.{◌≡◌, ℕ, true, false, List, [], ◌∷◌, map, length, None, Some, Ok, Err, refl, codes}
 use Rattle.std.specs.Fmt.{digits}
 use Rattle.std.specs.Str.{chars, is_utf8}
+use Rattle.pf_base.specs.Lines.{lines, rest}
 use Rattle.pf_base.specs.Printing.{printed_line}
 use Rattle.pf_base.specs.Refusal.{cause_text, refusal_line}
 use Rattle.pf_base.specs.Words.{words_of}
@@ -141,7 +142,7 @@ absent = refl
 
 edited_text : file_said file (record words { mode = mode.Edit; rest = codes "a=2" ∷ codes "c=" ∷ [] }) (Some (codes "a = 1\nb = 1"))
     ≡ Ok (Edited (codes "a = 2\nb = 1\nc = \n"))
-unfolding edited_by edited conf_of settings_of_words setting_of_word
+unfolding edited_by edited conf_of lines rest settings_of_words setting_of_word
 edited_text = refl
 
 -- the file of the words
