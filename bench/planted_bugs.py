@@ -561,7 +561,7 @@ BUGS = [
      'line: reading.line.saturating_sub(1),'),
     ('pf_params', 'class_that_is_not_set_is_read', 'classes', 'add_class',
      'if !known.is_set(name.as_slice()) {',
-     'if !known.is_set(name.as_slice()) && classes.held.is_empty() {'),
+     'if !known.is_set(name.as_slice()) && classes.held.len() == 0 {'),
     ('pf_params', 'last_refused_class', 'classes', 'add_class',
      'lesser(classes.refusal, refusal)',
      'lesser(None, refusal)'),

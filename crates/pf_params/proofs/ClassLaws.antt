@@ -6,17 +6,17 @@ use Rattle.std.proofs.lemmas.List.Elements.{filter_map-append}
 use Rattle.std.proofs.lemmas.List.Sums.{fold-append}
 use Rattle.std.specs.Cmp.Lexicographic.{slice_cmp}
 use Rattle.std.specs.List.{cons_option, filter_map, fold, list_all}
-use Rattle.std.specs.Option.{option_map}
 use Rattle.std.specs.Ordering.{nat_cmp, is_lt}
 use Rattle.std.specs.Prelude.{filter, map}
-use Rattle.std.specs.Result.{result_err}
+use Rattle.std.specs.Result.{result_err, result_map_both}
 use Rattle.pf_base.specs.declared.refused.Cause.{Cause}
 use Rattle.pf_base.specs.declared.refused.Refused.{Refused}
 use Rattle.pf_catalogue.specs.Catalogue.{Row, catalogue}
 use Rattle.pf_maincf.proofs.SetLines.{not_true}
 use Rattle.pf_params.specs.Accepted.{refusal_in}
 use Rattle.pf_params.specs.Classes.{class_names, class_read, class_row, class_rows, classes_of}
-use Rattle.pf_params.specs.Clauses.Readings.{before, held_readings, or_refused, readings_of}
+use Rattle.pf_params.proofs.ReadingLaws.{or_refused}
+use Rattle.pf_params.specs.Clauses.Readings.{before, held_readings, readings_of}
 use Rattle.pf_params.specs.Parameters.{is_set, reading_of, refusal_of, refusals, row_refusal, with_lesser}
 use Rattle.pf_params.specs.Settled.{Settled}
 use Rattle.pf_params.specs.declared.classes.Class.{Class}
@@ -62,7 +62,7 @@ module _ (s : Settled) where
       by_reading (reading_of s row) (not_true (is_lt (slice_cmp nat_cmp row.name first.name)) parts.0) (stays first rows parts.1)
     where
       by_reading : (r : Result Reading Cause) → is_lt (slice_cmp nat_cmp row.name first.name) ≡ false → fold with_lesser (Some first) (refusals s rows) ≡ Some first
-          → fold with_lesser (Some first) (cons_option (option_map (refusal_of s row.name) (result_err r)) (refusals s rows)) ≡ Some first
+          → fold with_lesser (Some first) (cons_option (result_err (result_map_both (λ reading. reading) (refusal_of s row.name) r)) (refusals s rows)) ≡ Some first
       by_reading (Ok reading) greater more = more
       by_reading (Err cause) greater more = ap (λ t. fold with_lesser (if t then Some (refusal_of s row.name cause) else Some first) (refusals s rows)) greater ∙ more
 
@@ -78,7 +78,7 @@ module _ (s : Settled) where
       behind front (Err refusal) = refl
 
       by_reading : (r : Result Reading Cause) → is_least row.name rows ≡ true → fold with_lesser None (refusals s rows) ≡ result_err (readings_of s rows)
-          → fold with_lesser None (cons_option (option_map (refusal_of s row.name) (result_err r)) (refusals s rows)) ≡ result_err (or_refused s row r (readings_of s rows))
+          → fold with_lesser None (cons_option (result_err (result_map_both (λ reading. reading) (refusal_of s row.name) r)) (refusals s rows)) ≡ result_err (or_refused s row r (readings_of s rows))
       by_reading (Ok reading) least more = more ∙ behind (reading ∷ []) (readings_of s rows)
       by_reading (Err cause) least more = stays (refusal_of s row.name cause) rows least
 

@@ -2,9 +2,9 @@
 use Rattle.std.specs.Prelude.{ℕ, Bool, true, not, List, [], Option, None, Some, Result, Ok, Err, is_some, if◌then◌else◌}
 use Rattle.std.specs.Cmp.Lexicographic.{slice_cmp}
 use Rattle.std.specs.List.{filter_map}
-use Rattle.std.specs.Option.{option_map, option_map_or}
+use Rattle.std.specs.Option.{option_map_or}
 use Rattle.std.specs.Ordering.{nat_cmp, is_lt}
-use Rattle.std.specs.Result.{result_err}
+use Rattle.std.specs.Result.{result_err, result_map_both}
 use Rattle.pf_base.specs.Meanings.{Source}
 use Rattle.pf_base.specs.declared.meaning.Meaning.TheVariants.{Is, DomainOf}
 use Rattle.pf_base.specs.declared.refused.Cause.{Cause}
@@ -73,9 +73,13 @@ reading_from settled row (Err flaw) = Err (cause_of flaw)
 unfoldable pub reading_of : Settled → Row → Result Reading Cause
 reading_of settled row = reading_from settled row (value_alone settled row.name)
 
--- the refusal of a parameter, if it is refused
+-- what is read of a parameter, or its refusal
+abbrev pub row_read : Settled → Row → Result Reading Refused
+row_read settled row = result_map_both (λ reading. reading) (refusal_of settled row.name) (reading_of settled row)
+
+-- the refusals of parameters, in their order
 abbrev pub row_refusal : Settled → Row → Option Refused
-row_refusal settled row = option_map (refusal_of settled row.name) (result_err (reading_of settled row))
+row_refusal settled row = result_err (row_read settled row)
 
 abbrev pub refusals : Settled → List Row → List Refused
 refusals settled rows = filter_map (row_refusal settled) rows

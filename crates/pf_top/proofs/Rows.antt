@@ -220,7 +220,7 @@ abbrev spoken : ℕ → List ℕ → Texts
 spoken client taken = (speech_of (setup_of site client)).said taken
 
 greeting_alone : spoken 167838211 [] ≡ record { out = codes "220 mx.example.com ESMTP Postfix\r\n"; mail = []; log = [] }
-unfolding greeting_of lines steps
+unfolding greeting_of steps lines
 greeting_alone = refl
 
 abbrev talked : List ℕ
@@ -231,7 +231,7 @@ texts_for_an_own_client : spoken 167838211 talked ≡ record {
   mail = [];
   log = codes "3 RCPT <joe@other.test> accept\n";
 }
-unfolding greeting_of lines steps step command verb_of after_keyword path_of end_of text_of helo_text mail_text rcpt_text quit_text log_line printed_line accepted_text digits
+unfolding greeting_of steps step command verb_of after_keyword path_of end_of text_of helo_text mail_text rcpt_text quit_text log_line printed_line accepted_text digits lines
 texts_for_an_own_client = refl
 
 texts_for_a_stranger : spoken 3221225993 talked ≡ record {
@@ -240,11 +240,11 @@ texts_for_a_stranger : spoken 3221225993 talked ≡ record {
   mail = [];
   log = codes "3 RCPT <joe@other.test> deny smtpd_relay_restrictions[2] reject_unauth_destination -\n";
 }
-unfolding greeting_of lines steps step command verb_of after_keyword path_of end_of text_of helo_text mail_text rcpt_text relay_denied_text quit_text log_line printed_line denied_text digits
+unfolding greeting_of steps step command verb_of after_keyword path_of end_of text_of helo_text mail_text rcpt_text relay_denied_text quit_text log_line printed_line denied_text digits lines
 texts_for_a_stranger = refl
 
 over_behind_quit : map (speech_of (setup_of site 167838211)).over (talked ∷ codes "HELO c.test\r\nQUIT" ∷ [] ∷ []) ≡ true ∷ false ∷ false ∷ []
-unfolding lines steps step command verb_of after_keyword path_of end_of
+unfolding steps step command verb_of after_keyword path_of end_of lines
 over_behind_quit = refl
 
 -- runs
