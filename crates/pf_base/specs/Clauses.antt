@@ -3,6 +3,7 @@ pub mod Causes
 pub mod FileParts
 pub mod Fronts
 pub mod Gathering
+pub mod Meant
 pub mod Memory
 pub mod Objects
 pub mod Pieces

@@ -4,9 +4,12 @@ pub mod Clauses
 pub mod FileList
 pub mod Lines
 pub mod Logical
+pub mod Meanings
 pub mod Names
+pub mod Options
 pub mod Printing
 pub mod Refusal
+pub mod Results
 pub mod Space
 pub mod Statuses
 pub mod TableTexts

@@ -4,10 +4,11 @@ use Rattle.std.specs.Cmp.Lexicographic.{slice_cmp}
 use Rattle.std.specs.List.{list_all}
 use Rattle.pf_base.specs.TableTexts.{TableTexts}
 use Rattle.pf_base.specs.Words.{words_of}
+use Rattle.pf_base.specs.Meanings.{Source}
+use Rattle.pf_base.specs.declared.meaning.Meaning.TheVariants.{Is, DomainOf}
 use Rattle.pf_base.specs.declared.table_texts.TableText.{TableText}
 use Rattle.pf_catalogue.specs.Arguments.{argument_of}
-use Rattle.pf_catalogue.specs.Catalogue.{Preset, Row, catalogue, place_of, row, row_at}
-use Rattle.pf_catalogue.specs.Catalogue.{Preset as preset}
+use Rattle.pf_catalogue.specs.Catalogue.{Row, catalogue, place_of, row, row_at}
 use Rattle.pf_catalogue.specs.Clients.{are_rewrite_clients}
 use Rattle.pf_catalogue.specs.Lists.{table_in}
 use Rattle.pf_catalogue.specs.Numbers.{number_within}
@@ -15,7 +16,6 @@ use Rattle.pf_catalogue.specs.Clauses.RowsMeant.{row_meant}
 use Rattle.pf_catalogue.specs.Tables.{tables_of, with_texts}
 use Rattle.pf_catalogue.specs.Values.{value_of}
 use Rattle.pf_catalogue.specs.declared.arguments.Argument.TheVariants as argument
-use Rattle.pf_catalogue.specs.declared.catalogue.Preset.TheVariants.{Is, DomainOf}
 use Rattle.pf_catalogue.specs.declared.kind.Kind.{Kind}
 use Rattle.pf_catalogue.specs.declared.kind.Kind.TheVariants as kind
 use Rattle.pf_catalogue.specs.declared.value.Value.TheVariants.{Text, Number, Yes, Items}
@@ -43,22 +43,22 @@ places = refl
 
 -- rows: the first, a number, a domain, the last, and the empty one where there is none
 rows_there : map row_at (0 ∷ 11 ∷ 25 ∷ 76 ∷ 77 ∷ [])
-    ≡ row (codes "access_map_defer_code") kind.Code (preset.text (codes "450"))
-    ∷ row (codes "header_size_limit") (kind.Number 100 10000000) (preset.text (codes "102400"))
-    ∷ row (codes "mydomain") kind.Text (preset.domain_of (codes "myhostname"))
-    ∷ row (codes "virtual_mailbox_maps") kind.Maps (preset.text []) ∷ row [] kind.Text (preset.text []) ∷ []
+    ≡ row (codes "access_map_defer_code") kind.Code (Is (codes "450"))
+    ∷ row (codes "header_size_limit") (kind.Number 100 10000000) (Is (codes "102400"))
+    ∷ row (codes "mydomain") kind.Text (DomainOf (codes "myhostname"))
+    ∷ row (codes "virtual_mailbox_maps") kind.Maps (Is []) ∷ row [] kind.Text (Is []) ∷ []
 unfolding catalogue
 rows_there = refl
 
 rows_of_the_code : (name other : Bor (List ℕ))
     → map row_meant (record { 0 = name; 1 = kind.Maps; 2 = Is other } ∷ record { 0 = name; 1 = kind.Yes; 2 = DomainOf other } ∷ [])
-    ≡ row name.now kind.Maps (preset.text other.now) ∷ row name.now kind.Yes (preset.domain_of other.now) ∷ []
+    ≡ row name.now kind.Maps (Is other.now) ∷ row name.now kind.Yes (DomainOf other.now) ∷ []
 rows_of_the_code name other = refl
 
 -- each default that is a text is a value of its kind
-abbrev is_value : Kind → Preset → Bool
-is_value k (preset.text text) = is_some (value_of k text)
-is_value k (preset.domain_of name) = true
+abbrev is_value : Kind → Source → Bool
+is_value k (Is text) = is_some (value_of k text)
+is_value k (DomainOf name) = true
 
 defaults_are_values : list_all (λ r. is_value r.kind r.preset) catalogue ≡ true
 unfolding catalogue words_of

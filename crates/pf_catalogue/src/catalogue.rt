@@ -9,21 +9,14 @@ use crate::kind::Kind::{
     self, AddressKinds, Code, Domains, Extensions, FixedYes, Hosts, Interfaces, Maps, Names,
     Networks, Number, Origin, Restrictions, RewriteClients, Text, Unset, Yes,
 };
-use Preset::{DomainOf, Is};
+use pf_base::Meaning::{self, DomainOf, Is};
 
-/// What a parameter stands for where it is not set: a text, or the domain in the value of another parameter.
-#[derive(Clone, Copy, Debug)]
-pub enum Preset {
-    Is(&'static [u8]),
-    DomainOf(&'static [u8]),
-}
-
-// A parameter: its name, what its values are, and its default.
+/// A parameter: its name, what its values are, and what it stands for where it is not set.
 #[derive(Clone, Copy)]
-pub(crate) struct Row(pub(crate) &'static [u8], pub(crate) Kind, pub(crate) Preset);
+pub struct Row<'a>(pub &'a [u8], pub Kind, pub Meaning<&'a [u8], &'a [u8]>);
 
 /// The parameters in the order of their names' bytes.
-static CATALOGUE: [Row; 77] = [
+static CATALOGUE: [Row<'static>; 77] = [
     Row(b"access_map_defer_code", Code, Is(b"450")),
     Row(b"access_map_reject_code", Code, Is(b"554")),
     Row(b"alias_maps", Maps, Is(b"")),
@@ -214,7 +207,7 @@ static CATALOGUE: [Row; 77] = [
     Row(b"virtual_mailbox_maps", Maps, Is(b"")),
 ];
 
-fn rows() -> &'static [Row]
+fn rows() -> &'static [Row<'static>]
     ensures rows { map row_meant result.now ≡ spec.catalogue }
     ensures count { length result.now ≡ 77 }
 {
@@ -222,7 +215,7 @@ fn rows() -> &'static [Row]
 }
 
 // The parameter at a place.
-pub(crate) fn row_at(place: usize) -> &'static Row
+pub(crate) fn row_at(place: usize) -> &'static Row<'static>
     requires { place < 77 }
     ensures { row_meant result.now ≡ spec.row_at place }
 {
@@ -230,7 +223,7 @@ pub(crate) fn row_at(place: usize) -> &'static Row
 }
 
 // The place of the first of these parameters that has this name.
-fn place_in(rows: &[Row], name: &[u8]) -> Option<usize>
+fn place_in(rows: &[Row<'_>], name: &[u8]) -> Option<usize>
     ensures { result ≡ position (λ r. bytes_eq (row_meant r).name name.now) rows.now }
 {
     rows.iter().position(|row| row.0 == name)

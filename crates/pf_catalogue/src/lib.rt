@@ -12,9 +12,9 @@ mod params;
 mod tables;
 mod value;
 
-pub use catalogue::Preset;
+pub use catalogue::Row;
 pub use kind::Kind;
-pub use named::{kind_of, param, param_at, param_name, param_place, preset_of};
+pub use named::{kind_of, param, param_at, param_name, param_place, param_row};
 pub use params::{PARAMS, Param};
 pub use tables::add_tables;
 pub use value::{Value, value_of};

@@ -1,9 +1,9 @@
 //! What the table says of a parameter.
 ghost use Rattle.std.specs.Prelude.{◌≡◌, ◌<◌};
 ghost use Rattle.pf_catalogue.specs.Catalogue as spec;
-ghost use Rattle.pf_catalogue.specs.Clauses.RowsMeant.{preset_meant};
+ghost use Rattle.pf_catalogue.specs.Clauses.RowsMeant.{row_meant};
 
-use crate::catalogue::{Preset, place_of, row_at};
+use crate::catalogue::{Row, place_of, row_at};
 use crate::kind::Kind;
 use crate::params::Param;
 
@@ -49,9 +49,9 @@ pub fn kind_of(p: Param) -> Kind
     row_at(p.place as usize).1
 }
 
-/// What a parameter stands for where it is not set.
-pub fn preset_of(p: Param) -> Preset
-    ensures { preset_meant result ≡ (spec.row_at p).preset }
+/// A parameter's row of the table.
+pub fn param_row(p: Param) -> Row<'static>
+    ensures { row_meant result ≡ spec.row_at p }
 {
-    row_at(p.place as usize).2
+    *row_at(p.place as usize)
 }

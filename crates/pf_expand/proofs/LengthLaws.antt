@@ -5,13 +5,13 @@ use Rattle.std.proofs.Math.Seq.{drop-cons}
 use Rattle.pf_expand.proofs.ShapeLaws.{flaw_before, flaw_behind}
 use Rattle.pf_expand.proofs.RunLaws.{first_flaw_assoc}
 use Rattle.pf_expand.specs.Expansion.{length_limit}
+use Rattle.pf_expand.specs.Clauses.Meanings.{Kept}
 use Rattle.pf_expand.specs.Clauses.Levels.{choice_behind, shape_named}
 use Rattle.pf_expand.specs.Clauses.Runs.{behind, choice_name}
 use Rattle.pf_expand.specs.Clauses.RunsMeant.{depth_of}
 use Rattle.pf_expand.specs.Clauses.Shapes.{added, behind_choice, joined, long, run}
 use Rattle.pf_expand.specs.declared.flaw.Flaw.TheVariants.{TooLong}
 use Rattle.pf_expand.specs.declared.lengths.Shapes.{Shapes}
-use Rattle.pf_expand.specs.declared.names.Meaning.{Meaning}
 use Rattle.pf_expand.specs.declared.run.Mode.{Mode}
 use Rattle.pf_expand.specs.declared.run.Mode.TheVariants.{Counts, ToOtherwise, ToEnd}
 use Rattle.pf_expand.specs.declared.shape.Shape.{Shape}
@@ -64,7 +64,7 @@ shape_nothing (Flawed f) (Long b) = refl
 shape_nothing (Flawed f) (Flawed g) = refl
 
 -- of a piece that is no name of a choice nothing is asked
-pub behind_same : (names : List (List ℕ × Meaning)) (shapes : Shapes) (mode : Mode) (token : Token)
+pub behind_same : (names : List (List ℕ × Kept)) (shapes : Shapes) (mode : Mode) (token : Token)
     → behind (choice_behind names shapes token) mode token ≡ behind (behind_choice (shape_named names shapes (choice_name token))) mode token
 behind_same names shapes (ToOtherwise n) token = refl
 behind_same names shapes (ToEnd n) token = refl
@@ -94,7 +94,7 @@ run_alone named mode (token ∷ tokens) =
     sym (nothing_before (added named mode token) (run named (behind (behind_choice (named (choice_name token))) mode token) tokens))
 
 -- one piece more
-pub run_more : (names : List (List ℕ × Meaning)) (shapes : Shapes) (tokens rest behind_it : List Token) (shape next : Shape) (mode after : Mode) (token : Token)
+pub run_more : (names : List (List ℕ × Kept)) (shapes : Shapes) (tokens rest behind_it : List Token) (shape next : Shape) (mode after : Mode) (token : Token)
     → run (shape_named names shapes) Counts tokens ≡ joined shape (run (shape_named names shapes) mode rest) → rest ≡ token ∷ behind_it
     → next ≡ joined shape (added (shape_named names shapes) mode token) → after ≡ behind (choice_behind names shapes token) mode token
     → run (shape_named names shapes) Counts tokens ≡ joined next (run (shape_named names shapes) after behind_it)
@@ -119,7 +119,7 @@ choice_depth (Long n) = elim (n == 0) as (λ t. depth_of (if t then ToOtherwise 
 choice_depth (Flawed f) = refl
 
 -- each piece opens one choice at most
-pub depth_more : (names : List (List ℕ × Meaning)) (shapes : Shapes) (mode : Mode) (token : Token)
+pub depth_more : (names : List (List ℕ × Kept)) (shapes : Shapes) (mode : Mode) (token : Token)
     → depth_of (behind (choice_behind names shapes token) mode token) ≤ depth_of mode + 1
 depth_more names shapes Counts (Literal bytes) = omega arith
 depth_more names shapes Counts (Name name) = omega arith

@@ -3,14 +3,13 @@ use Rattle.std.proofs.Common.{◌≡◌, ℕ, ◌+◌, ◌≤◌, ◌++◌, zero
 use Rattle.std.proofs.lemmas.Bool.{ltb-true, ltb-false}
 use Rattle.std.proofs.lemmas.List.{length-drop}
 use Rattle.std.specs.List.{position}
+use Rattle.pf_base.specs.declared.meaning.Meaning.TheVariants.{Is, DomainOf}
 use Rattle.pf_expand.proofs.ShapeLaws.{Limited}
 use Rattle.pf_expand.specs.Expansion.{Answer, joined, length_limit, within_limit}
-use Rattle.pf_expand.specs.Clauses.Meanings.{content, level_value, meaning_of, meaning_value}
+use Rattle.pf_expand.specs.Clauses.Meanings.{Kept, content, level_value, meaning_of, meaning_value}
 use Rattle.pf_expand.specs.Names.{domain_in, domain_of, past_dot}
 use Rattle.pf_expand.specs.Clauses.Runs.{added, behind, behind_choice, choice_name, flaw_alone, run}
 use Rattle.pf_expand.specs.declared.flaw.Flaw.TheVariants.{TooLong}
-use Rattle.pf_expand.specs.declared.names.Meaning.{Meaning}
-use Rattle.pf_expand.specs.declared.names.Meaning.TheVariants as meaning
 use Rattle.pf_expand.specs.declared.run.Mode.{Mode}
 use Rattle.pf_expand.specs.declared.run.Mode.TheVariants.{Counts, ToOtherwise, ToEnd}
 use Rattle.pf_expand.specs.declared.token.Token.{Token}
@@ -46,13 +45,13 @@ domain_limit : (x : Answer) → within_limit x ≡ x → within_limit (domain_of
 domain_limit (Ok host) h = fitting (domain_in host) (domain_fits host (position _ host) (fits host h))
 domain_limit (Err flaw) h = refl
 
-meaning_limit : (values : List ℕ → Answer) (m : Meaning) → Limited values → within_limit (meaning_value values m) ≡ meaning_value values m
-meaning_limit values (meaning.Text tokens) limited = limit_twice (run values Counts tokens)
-meaning_limit values meaning.BadForm limited = refl
-meaning_limit values (meaning.DomainOf name) limited = domain_limit (values name) (limited name)
+meaning_limit : (values : List ℕ → Answer) (m : Kept) → Limited values → within_limit (meaning_value values m) ≡ meaning_value values m
+meaning_limit values (Is (Some tokens)) limited = limit_twice (run values Counts tokens)
+meaning_limit values (Is None) limited = refl
+meaning_limit values (DomainOf name) limited = domain_limit (values name) (limited name)
 
 -- no value is above the limit
-pub level_limit : (names : List (List ℕ × Meaning)) (n : ℕ) → Limited (level_value names n)
+pub level_limit : (names : List (List ℕ × Kept)) (n : ℕ) → Limited (level_value names n)
 unfolding level_value
 level_limit names zero name = refl
 level_limit names (suc n) name = meaning_limit (level_value names n) (meaning_of names name) (level_limit names n)
@@ -120,11 +119,11 @@ limit_ok (Ok b) bytes h =
     unless_long t b = if t then Err TooLong else Ok b
 limit_ok (Err f) bytes h = cc
 
-meaning_extends : (v w : List ℕ → Answer) → Extends v w → (m : Meaning) (bytes : List ℕ) → meaning_value v m ≡ Ok bytes → meaning_value w m ≡ Ok bytes
-meaning_extends v w more (meaning.Text tokens) bytes e =
+meaning_extends : (v w : List ℕ → Answer) → Extends v w → (m : Kept) (bytes : List ℕ) → meaning_value v m ≡ Ok bytes → meaning_value w m ≡ Ok bytes
+meaning_extends v w more (Is (Some tokens)) bytes e =
     ap within_limit (run_extends v w more Counts tokens bytes (limit_ok (run v Counts tokens) bytes e) ∙ sym (limit_ok (run v Counts tokens) bytes e)) ∙ e
-meaning_extends v w more meaning.BadForm bytes e = e
-meaning_extends v w more (meaning.DomainOf name) bytes e =
+meaning_extends v w more (Is None) bytes e = e
+meaning_extends v w more (DomainOf name) bytes e =
     let host = domain_ok (v name) bytes e in
     ap domain_of (more name host.0 host.1 ∙ sym host.1) ∙ e
   where
@@ -133,13 +132,13 @@ meaning_extends v w more (meaning.DomainOf name) bytes e =
     domain_ok (Err f) bytes e = cc
 
 -- one level more
-pub level_more : (names : List (List ℕ × Meaning)) (n : ℕ) → Extends (level_value names n) (level_value names (suc n))
+pub level_more : (names : List (List ℕ × Kept)) (n : ℕ) → Extends (level_value names n) (level_value names (suc n))
 unfolding level_value
 level_more names zero name bytes e = cc
 level_more names (suc n) name bytes e = meaning_extends (level_value names n) (level_value names (suc n)) (level_more names n) (meaning_of names name) bytes e
 
 -- and as many as there are
-pub level_extends : (names : List (List ℕ × Meaning)) (n k : ℕ) → Extends (level_value names n) (level_value names (n + k))
+pub level_extends : (names : List (List ℕ × Kept)) (n k : ℕ) → Extends (level_value names n) (level_value names (n + k))
 level_extends names n zero name bytes e = subst (λ m. level_value names m name ≡ Ok bytes) (none n) e where
   none : (n : ℕ) → n ≡ n + 0
   none n = omega arith

@@ -5,15 +5,14 @@ use Rattle.std.proofs.lemmas.Slice.Eq.{bytes_eq-Decides}
 use Rattle.std.specs.Map.{lookup}
 use Rattle.std.specs.Option.{unwrap_or}
 use Rattle.std.specs.Str.{bytes_eq}
+use Rattle.pf_base.specs.declared.meaning.Meaning.TheVariants.{Is, DomainOf}
 use Rattle.pf_expand.specs.Expansion.{parts}
-use Rattle.pf_expand.specs.Clauses.Meanings.{AreNames, meaning_of, meant, with_meaning}
-use Rattle.pf_expand.specs.Names.{Source, with_source}
-use Rattle.pf_expand.specs.Names.{Source as source}
-use Rattle.pf_expand.specs.declared.names.Meaning.{Meaning}
-use Rattle.pf_expand.specs.declared.names.Meaning.TheVariants as meaning
+use Rattle.pf_expand.specs.Clauses.Meanings.{AreNames, Kept, meaning_of, kept, with_meaning}
+use Rattle.pf_base.specs.Meanings.{Source}
+use Rattle.pf_expand.specs.Names.{with_source}
 
 -- none was set
-pub none_set : (none : List (List ℕ × Meaning)) → none ≡ [] → AreNames none (λ name. source.text [])
+pub none_set : (none : List (List ℕ × Kept)) → none ≡ [] → AreNames none (λ name. Is [])
 unfolding parts
 none_set none empty name = ap (λ xs. meaning_of xs name) empty
 
@@ -24,7 +23,7 @@ alike : (a b : List ℕ) → a ≡ b → bytes_eq a b ≡ true
 alike a b e = (bytes_eq-Decides a b).1 e
 
 -- what a name means once one was set
-lookup_set : (names : List (List ℕ × Meaning)) (set name : List ℕ) (m : Meaning)
+lookup_set : (names : List (List ℕ × Kept)) (set name : List ℕ) (m : Kept)
     → lookup (bytes_eq name) (insert_entry bytes_eq names set m) ≡ cond (bytes_eq name set) (Some m) (lookup (bytes_eq name) names)
 lookup_set [] set name m = refl
 lookup_set (entry ∷ names) set name m =
@@ -58,10 +57,10 @@ lookup_set (entry ∷ names) set name m =
           | false ↦ λ _. refl
         ]) refl
 
-meaning_set : (names : List (List ℕ × Meaning)) (set name : List ℕ) (m : Meaning)
+meaning_set : (names : List (List ℕ × Kept)) (set name : List ℕ) (m : Kept)
     → meaning_of (with_meaning names set m) name ≡ (if bytes_eq name set then m else meaning_of names name)
-meaning_set names set name m = ap (λ x. unwrap_or x (meaning.Text [])) (lookup_set names set name m) ∙ by_test (bytes_eq name set) where
-  by_test : (t : Bool) → unwrap_or (cond t (Some m) (lookup (bytes_eq name) names)) (meaning.Text []) ≡ (if t then m else meaning_of names name)
+meaning_set names set name m = ap (λ x. unwrap_or x (Is (Some []))) (lookup_set names set name m) ∙ by_test (bytes_eq name set) where
+  by_test : (t : Bool) → unwrap_or (cond t (Some m) (lookup (bytes_eq name) names)) (Is (Some [])) ≡ (if t then m else meaning_of names name)
   by_test true = refl
   by_test false = refl
 
@@ -74,13 +73,13 @@ turned a b = by_tests (bytes_eq a b) (bytes_eq b a) refl refl where
   by_tests false false p q = refl
 
 -- one more was set
-pub name_set : (names new : List (List ℕ × Meaning)) (set : List ℕ) (s : Source) (sources : List ℕ → Source) → new ≡ with_meaning names set (meant s)
+pub name_set : (names new : List (List ℕ × Kept)) (set : List ℕ) (s : Source) (sources : List ℕ → Source) → new ≡ with_meaning names set (kept s)
     → AreNames names sources → AreNames new (with_source sources set s)
 name_set names new set s sources is are name =
-    ap (λ xs. meaning_of xs name) is ∙ meaning_set names set name (meant s)
-    ∙ ap (λ t. if t then meant s else meaning_of names name) (turned name set)
+    ap (λ xs. meaning_of xs name) is ∙ meaning_set names set name (kept s)
+    ∙ ap (λ t. if t then kept s else meaning_of names name) (turned name set)
     ∙ by_test (bytes_eq set name)
   where
-    by_test : (t : Bool) → (if t then meant s else meaning_of names name) ≡ meant (if t then s else sources name)
+    by_test : (t : Bool) → (if t then kept s else meaning_of names name) ≡ kept (if t then s else sources name)
     by_test true = refl
     by_test false = are name

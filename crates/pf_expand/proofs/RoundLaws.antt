@@ -8,19 +8,18 @@ use Rattle.std.specs.List.{position_or_len}
 use Rattle.std.specs.Map.{keys_of, lookup}
 use Rattle.std.specs.Option.{unwrap_or}
 use Rattle.std.specs.Str.{bytes_eq}
+use Rattle.pf_base.specs.declared.meaning.Meaning.TheVariants.{Is, DomainOf}
 use Rattle.pf_expand.proofs.LevelLaws.{level_limit}
 use Rattle.pf_expand.proofs.ShapeLaws.{run_shape}
 use Rattle.pf_expand.specs.Expansion.{Answer, length_limit, within_limit}
 use Rattle.pf_expand.specs.Clauses.Levels.{AreShapes, shape_at, shape_named}
-use Rattle.pf_expand.specs.Clauses.Meanings.{content, level_value, meaning_in, meaning_of, meaning_value, place_in}
+use Rattle.pf_expand.specs.Clauses.Meanings.{Kept, content, level_value, meaning_in, meaning_of, meaning_value, place_in}
 use Rattle.pf_expand.specs.Names.{domain_in, domain_of}
 use Rattle.pf_expand.specs.Clauses.Runs as runs
 use Rattle.pf_expand.specs.Clauses.Shapes.{long, run, shape_of}
 use Rattle.pf_expand.specs.declared.flaw.Flaw.{Flaw}
 use Rattle.pf_expand.specs.declared.flaw.Flaw.TheVariants.{TooDeep, TooLong}
 use Rattle.pf_expand.specs.declared.lengths.Shapes.{Shapes}
-use Rattle.pf_expand.specs.declared.names.Meaning.{Meaning}
-use Rattle.pf_expand.specs.declared.names.Meaning.TheVariants as meaning
 use Rattle.pf_expand.specs.declared.run.Mode.TheVariants.{Counts}
 use Rattle.pf_expand.specs.declared.shape.Shape.TheVariants.{Long, Flawed}
 use Rattle.pf_expand.specs.declared.token.Token.{Token}
@@ -38,7 +37,7 @@ limited_alike (Ok bytes) =
 limited_alike (Err flaw) = refl
 
 -- the shape of a text in its pieces
-pub text_shape : (names : List (List ℕ × Meaning)) (shapes : Shapes) (tokens : List Token) → AreShapes names shapes
+pub text_shape : (names : List (List ℕ × Kept)) (shapes : Shapes) (tokens : List Token) → AreShapes names shapes
     → run (shape_named names shapes) Counts tokens ≡ shape_of (within_limit (runs.run (level_value names shapes.levels) Counts tokens))
 text_shape names shapes tokens are =
     run_shape (level_value names shapes.levels) (shape_named names shapes) are (level_limit names shapes.levels) Counts tokens
@@ -65,18 +64,18 @@ domain_shape_of (Ok bytes) h = refl
 domain_shape_of (Err flaw) h = cc
 
 -- a name with one level more
-pub next_value : (names : List (List ℕ × Meaning)) (n : ℕ) (name : List ℕ) → level_value names (n + 1) name ≡ meaning_value (level_value names n) (meaning_of names name)
+pub next_value : (names : List (List ℕ × Kept)) (n : ℕ) (name : List ℕ) → level_value names (n + 1) name ≡ meaning_value (level_value names n) (meaning_of names name)
 unfolding level_value
 next_value names n name = ap (λ m. level_value names m name) (one n) where
   one : (n : ℕ) → n + 1 ≡ suc n
   one n = omega arith
 
-pub next_meaning : (names : List (List ℕ × Meaning)) (n : ℕ) (name : List ℕ) (x : Option Meaning) → meaning_in names name ≡ x
-    → level_value names (n + 1) name ≡ meaning_value (level_value names n) (unwrap_or x (meaning.Text []))
-next_meaning names n name x is = next_value names n name ∙ ap (λ m. meaning_value (level_value names n) (unwrap_or m (meaning.Text []))) is
+pub next_meaning : (names : List (List ℕ × Kept)) (n : ℕ) (name : List ℕ) (x : Option Kept) → meaning_in names name ≡ x
+    → level_value names (n + 1) name ≡ meaning_value (level_value names n) (unwrap_or x (Is (Some [])))
+next_meaning names n name x is = next_value names n name ∙ ap (λ m. meaning_value (level_value names n) (unwrap_or m (Is (Some [])))) is
 
 -- a name that was not set
-lookup_none : (test : List ℕ → Bool) (names : List (List ℕ × Meaning)) → length (keys_of names) ≤ position_or_len test (keys_of names) → lookup test names ≡ None
+lookup_none : (test : List ℕ → Bool) (names : List (List ℕ × Kept)) → length (keys_of names) ≤ position_or_len test (keys_of names) → lookup test names ≡ None
 lookup_none test [] h = refl
 lookup_none test (entry ∷ names) h =
     (elim (test entry.0) as (λ t. suc (length (keys_of names)) ≤ cond (not t) (1 + position_or_len test (keys_of names)) 0 → cond t (Some entry.1) (lookup test names) ≡ None) [
@@ -84,7 +83,7 @@ lookup_none test (entry ∷ names) h =
       | false ↦ λ e. lookup_none test names (omega (arith, e))
     ]) h
 
-not_set : (names : List (List ℕ × Meaning)) (name : List ℕ) → place_in names name ≡ None → meaning_in names name ≡ None
+not_set : (names : List (List ℕ × Kept)) (name : List ℕ) → place_in names name ≡ None → meaning_in names name ≡ None
 not_set names name h =
     lookup_none (bytes_eq name) names (behind_all (
     (elim (nat_lt (position_or_len (bytes_eq name) (keys_of names)) (length (keys_of names))) as (λ t. unless_place t ≡ None → t ≡ false) [
@@ -98,11 +97,11 @@ not_set names name h =
     behind_all : nat_lt (position_or_len (bytes_eq name) (keys_of names)) (length (keys_of names)) ≡ false → length (keys_of names) ≤ position_or_len (bytes_eq name) (keys_of names)
     behind_all e = omega (arith, ltb-false _ _ e)
 
-pub not_set_value : (names : List (List ℕ × Meaning)) (n : ℕ) (name : List ℕ) → meaning_in names name ≡ None → Long 0 ≡ shape_of (level_value names (n + 1) name)
+pub not_set_value : (names : List (List ℕ × Kept)) (n : ℕ) (name : List ℕ) → meaning_in names name ≡ None → Long 0 ≡ shape_of (level_value names (n + 1) name)
 not_set_value names n name is = sym (ap shape_of (next_meaning names n name None is))
 
 -- the shapes with one level more
-pub next_shapes : (names : List (List ℕ × Meaning)) (shapes : Shapes) (n : ℕ) → shapes.levels ≡ n + 1 → shapes.absent ≡ Long 0
+pub next_shapes : (names : List (List ℕ × Kept)) (shapes : Shapes) (n : ℕ) → shapes.levels ≡ n + 1 → shapes.absent ≡ Long 0
     → shapes.named ≡ map (λ name. shape_of (level_value names (n + 1) name)) (keys_of names) → AreShapes names shapes
 next_shapes names shapes n levels absent named name =
     at_place (place_in names name) refl ∙ ap (λ m. shape_of (level_value names m name)) (sym levels)
@@ -116,7 +115,7 @@ next_shapes names shapes n levels absent named name =
         ∙ ap (λ key. shape_of (level_value names (n + 1) key)) (sym ((bytes_eq-Decides name (get_or (keys_of names) i [])).0 found.1))
 
 -- with no level left no name has a value
-pub no_levels : (names : List (List ℕ × Meaning)) (name : List ℕ) → shape_named names (record { levels = 0; named = []; absent = Flawed TooDeep }) name ≡ shape_of (level_value names 0 name)
+pub no_levels : (names : List (List ℕ × Kept)) (name : List ℕ) → shape_named names (record { levels = 0; named = []; absent = Flawed TooDeep }) name ≡ shape_of (level_value names 0 name)
 unfolding level_value
 no_levels names name = at_place (place_in names name) where
   at_place : (x : Option ℕ) → shape_at (record { levels = 0; named = []; absent = Flawed TooDeep }) x ≡ Flawed TooDeep

@@ -1,11 +1,12 @@
 -- Worked examples of the definitions, each by computation.
 use Rattle.std.proofs.Common.{◌≡◌, ℕ, List, [], ◌∷◌, None, Some, Ok, Err, map, refl, codes, if◌then◌else◌}
 use Rattle.std.specs.Str.{bytes_eq}
+use Rattle.pf_base.specs.Meanings.{Source}
+use Rattle.pf_base.specs.declared.meaning.Meaning.TheVariants.{Is, DomainOf}
 use Rattle.pf_expand.specs.Expansion.{Answer, first_flaw, parts, text_value}
 use Rattle.pf_expand.specs.Forms.{first_part, form_of}
 use Rattle.pf_expand.specs.Forms.{Part as part}
-use Rattle.pf_expand.specs.Names.{Source, domain_in, expanded, name_value, with_source}
-use Rattle.pf_expand.specs.Names.{Source as source}
+use Rattle.pf_expand.specs.Names.{domain_in, expanded, name_value, with_source}
 use Rattle.pf_expand.specs.declared.flaw.Flaw.TheVariants.{BadForm, TooDeep, TooLong}
 
 -- parts
@@ -32,16 +33,16 @@ no_form = refl
 -- names: a text, an empty one, two that name each other, and a domain
 abbrev sources : List ℕ → Source
 sources name =
-    if bytes_eq name (codes "x") then source.text (codes "X y")
-    else if bytes_eq name (codes "y") then source.text (codes "<$x>")
-    else if bytes_eq name (codes "a") then source.text (codes "$b")
-    else if bytes_eq name (codes "b") then source.text (codes "$a")
-    else if bytes_eq name (codes "host") then source.text (codes "mx.${x:none}example.com")
-    else if bytes_eq name (codes "domain") then source.domain (codes "host")
-    else source.text []
+    if bytes_eq name (codes "x") then Is (codes "X y")
+    else if bytes_eq name (codes "y") then Is (codes "<$x>")
+    else if bytes_eq name (codes "a") then Is (codes "$b")
+    else if bytes_eq name (codes "b") then Is (codes "$a")
+    else if bytes_eq name (codes "host") then Is (codes "mx.${x:none}example.com")
+    else if bytes_eq name (codes "domain") then DomainOf (codes "host")
+    else Is []
 
-one_changed : map (with_source sources (codes "x") (source.domain (codes "y"))) (codes "x" ∷ codes "y" ∷ codes "xx" ∷ [])
-    ≡ source.domain (codes "y") ∷ source.text (codes "<$x>") ∷ source.text [] ∷ []
+one_changed : map (with_source sources (codes "x") (DomainOf (codes "y"))) (codes "x" ∷ codes "y" ∷ codes "xx" ∷ [])
+    ≡ DomainOf (codes "y") ∷ Is (codes "<$x>") ∷ Is [] ∷ []
 one_changed = refl
 
 abbrev value : List ℕ → Answer

@@ -5,10 +5,9 @@ use Rattle.pf_expand.proofs.LevelLaws.{level_limit, level_more}
 use Rattle.pf_expand.proofs.ValueLaws.{flawed_limit}
 use Rattle.pf_expand.specs.Expansion.{Answer, within_limit}
 use Rattle.pf_expand.specs.Clauses.Levels.{AreShapes, shape_at, shape_named}
-use Rattle.pf_expand.specs.Clauses.Meanings.{level_value, meaning_of, meaning_value, place_in}
+use Rattle.pf_expand.specs.Clauses.Meanings.{Kept, level_value, meaning_of, meaning_value, place_in}
 use Rattle.pf_expand.specs.Clauses.Shapes.{shape_of}
 use Rattle.pf_expand.specs.declared.lengths.Shapes.{Shapes}
-use Rattle.pf_expand.specs.declared.names.Meaning.{Meaning}
 
 -- a value that is kept where it is there, and has the same shape, is the same
 same_value : (x y : Answer) → within_limit y ≡ y → ((bytes : List ℕ) → x ≡ Ok bytes → y ≡ Ok bytes) → shape_of x ≡ shape_of y → y ≡ x
@@ -16,12 +15,12 @@ same_value (Ok bytes) y limited more same = more bytes refl
 same_value (Err flaw) y limited more same = sym limited ∙ flawed_limit y flaw same
 
 -- one level more changes no value
-same_values : (names : List (List ℕ × Meaning)) (n : ℕ) → ((name : List ℕ) → shape_of (level_value names n name) ≡ shape_of (level_value names (suc n) name))
+same_values : (names : List (List ℕ × Kept)) (n : ℕ) → ((name : List ℕ) → shape_of (level_value names n name) ≡ shape_of (level_value names (suc n) name))
     → level_value names (suc n) ≡ level_value names n
 same_values names n same = fun_ext (λ name. same_value (level_value names n name) (level_value names (suc n) name) (level_limit names (suc n) name) (level_more names n name) (same name))
 
 -- so no number of levels more does
-values_stay : (names : List (List ℕ × Meaning)) (n k : ℕ) → level_value names (suc n) ≡ level_value names n → level_value names (n + k) ≡ level_value names n
+values_stay : (names : List (List ℕ × Kept)) (n k : ℕ) → level_value names (suc n) ≡ level_value names n → level_value names (n + k) ≡ level_value names n
 unfolding level_value
 values_stay names n zero same = ap (level_value names) (none n) where
   none : (n : ℕ) → n + 0 ≡ n
@@ -33,7 +32,7 @@ values_stay names n (suc k) same =
     one n k = omega arith
 
 -- the shapes with one level more are the same
-shapes_alike : (names : List (List ℕ × Meaning)) (shapes next : Shapes) → next.named ≡ shapes.named → next.absent ≡ shapes.absent
+shapes_alike : (names : List (List ℕ × Kept)) (shapes next : Shapes) → next.named ≡ shapes.named → next.absent ≡ shapes.absent
     → (name : List ℕ) → shape_named names next name ≡ shape_named names shapes name
 shapes_alike names shapes next named absent name = at_place (place_in names name) where
   at_place : (x : Option ℕ) → shape_at next x ≡ shape_at shapes x
@@ -41,7 +40,7 @@ shapes_alike names shapes next named absent name = at_place (place_in names name
   at_place (Some place) = rw (named, absent) refl
 
 -- so they are the shapes with any number of levels more
-pub shapes_stay : (names : List (List ℕ × Meaning)) (shapes next last : Shapes) → AreShapes names shapes → AreShapes names next → next.levels ≡ shapes.levels + 1
+pub shapes_stay : (names : List (List ℕ × Kept)) (shapes next last : Shapes) → AreShapes names shapes → AreShapes names next → next.levels ≡ shapes.levels + 1
     → next.named ≡ shapes.named → next.absent ≡ shapes.absent → shapes.levels ≤ last.levels → last.named ≡ next.named → last.absent ≡ next.absent
     → AreShapes names last
 shapes_stay names shapes next last are next_are levels named absent up last_named last_absent name =

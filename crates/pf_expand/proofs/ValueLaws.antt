@@ -6,14 +6,13 @@ use Rattle.pf_expand.proofs.RunLaws.{run_flat}
 use Rattle.pf_expand.proofs.ShapeLaws.{run_shape}
 use Rattle.pf_expand.specs.Expansion.{Answer, Text, joined, length_limit, parts_of, text_value, value_of, value_or_bad, within_limit}
 use Rattle.pf_expand.specs.Clauses.Levels.{AreShapes, shape_named}
-use Rattle.pf_expand.specs.Clauses.Meanings.{content, level_value}
+use Rattle.pf_expand.specs.Clauses.Meanings.{Kept, content, level_value}
 use Rattle.pf_expand.specs.Clauses.Runs as runs
 use Rattle.pf_expand.specs.Clauses.Shapes.{run, shape_of}
 use Rattle.pf_expand.specs.Clauses.Tokens.{flat, tokens_of}
 use Rattle.pf_expand.specs.declared.flaw.Flaw.{Flaw}
 use Rattle.pf_expand.specs.declared.flaw.Flaw.TheVariants.{BadForm, TooLong}
 use Rattle.pf_expand.specs.declared.lengths.Shapes.{Shapes}
-use Rattle.pf_expand.specs.declared.names.Meaning.{Meaning}
 use Rattle.pf_expand.specs.declared.run.Mode.TheVariants.{Counts}
 use Rattle.pf_expand.specs.declared.shape.Shape.TheVariants.{Long, Flawed}
 use Rattle.pf_expand.specs.declared.token.Token.{Token}
@@ -73,7 +72,7 @@ long_limit (Ok bytes) n e =
 long_limit (Err g) n e = cc
 
 -- the shape of pieces is that of their value
-pub pieces_run : (names : List (List ℕ × Meaning)) (shapes : Shapes) (tokens : List Token) → AreShapes names shapes
+pub pieces_run : (names : List (List ℕ × Kept)) (shapes : Shapes) (tokens : List Token) → AreShapes names shapes
     → run (shape_named names shapes) Counts tokens ≡ shape_of (runs.run (level_value names shapes.levels) Counts tokens)
 pieces_run names shapes tokens are =
     run_shape (level_value names shapes.levels) (shape_named names shapes) are (level_limit names shapes.levels) Counts tokens

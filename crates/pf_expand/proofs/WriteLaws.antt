@@ -1,13 +1,14 @@
 -- What is written of a value, piece by piece.
 use Rattle.std.proofs.Common.{◌≡◌, ◌≢◌, get_or, drop, nat_lt, if◌then◌else◌, ℕ, ◌+◌, ◌-◌, ◌<◌, ◌≤◌, ◌++◌, Bool, true, false, List, [], ◌∷◌, length, Ok, Err, is_ok, None, Some, refl, sym, ap, ◌∙◌, subst, arith, append_assoc}
 use Rattle.std.proofs.lemmas.List.{nil_from_length}
+use Rattle.pf_base.specs.declared.meaning.Meaning.TheVariants.{Is, DomainOf}
 use Rattle.pf_expand.proofs.LengthLaws.{depth_more, drop_item}
 use Rattle.pf_expand.proofs.LevelLaws.{both, level_extends, level_limit}
 use Rattle.pf_expand.proofs.RoundLaws.{next_meaning}
 use Rattle.pf_expand.proofs.ShapeLaws.{choice_shape, limited_shape}
 use Rattle.pf_expand.specs.Expansion.{Answer, length_limit, within_limit}
 use Rattle.pf_expand.specs.Clauses.Levels.{AreShapes, choice_behind, shape_named}
-use Rattle.pf_expand.specs.Clauses.Meanings.{content, level_value, meaning_in}
+use Rattle.pf_expand.specs.Clauses.Meanings.{Kept, content, level_value, meaning_in}
 use Rattle.pf_expand.specs.Names.{domain_of}
 use Rattle.pf_expand.specs.Clauses.Runs.{added, behind, behind_choice, choice_name, flaw_alone, run}
 use Rattle.pf_expand.specs.Clauses.RunsMeant.{depth_of}
@@ -15,8 +16,6 @@ use Rattle.pf_expand.specs.Clauses.Shapes as spec
 use Rattle.pf_expand.specs.Clauses.Shapes.{shape_of}
 use Rattle.pf_expand.specs.declared.flaw.Flaw.TheVariants.{TooLong}
 use Rattle.pf_expand.specs.declared.lengths.Shapes.{Shapes}
-use Rattle.pf_expand.specs.declared.names.Meaning.{Meaning}
-use Rattle.pf_expand.specs.declared.names.Meaning.TheVariants as meaning
 use Rattle.pf_expand.specs.declared.run.Mode.{Mode}
 use Rattle.pf_expand.specs.declared.run.Mode.TheVariants.{Counts, ToOtherwise, ToEnd}
 use Rattle.pf_expand.specs.declared.shape.Shape.TheVariants.{Long}
@@ -29,20 +28,20 @@ is_there (Ok bytes) h = refl
 is_there (Err flaw) h = cc
 
 -- with more levels it is the same
-there_at : (names : List (List ℕ × Meaning)) (n m : ℕ) (name bytes : List ℕ) → n ≤ m → level_value names n name ≡ Ok bytes → level_value names m name ≡ Ok bytes
+there_at : (names : List (List ℕ × Kept)) (n m : ℕ) (name bytes : List ℕ) → n ≤ m → level_value names n name ≡ Ok bytes → level_value names m name ≡ Ok bytes
 there_at names n m name bytes h e = subst (λ k. level_value names k name ≡ Ok bytes) (up n m h) (level_extends names n (m - n) name bytes e) where
   up : (n m : ℕ) → n ≤ m → n + (m - n) ≡ m
   up n m h = omega (arith, h)
 
 -- the shape of a value that is there with fewer levels
-there_shape : (names : List (List ℕ × Meaning)) (shapes : Shapes) (n : ℕ) (name bytes : List ℕ) → AreShapes names shapes → n ≤ shapes.levels → level_value names n name ≡ Ok bytes
+there_shape : (names : List (List ℕ × Kept)) (shapes : Shapes) (n : ℕ) (name bytes : List ℕ) → AreShapes names shapes → n ≤ shapes.levels → level_value names n name ≡ Ok bytes
     → shape_named names shapes name ≡ Long (length bytes)
 there_shape names shapes n name bytes are h e =
     let at = there_at names n shapes.levels name bytes h e in
     are name ∙ ap shape_of at ∙ limited_shape bytes (subst (λ x. within_limit x ≡ x) at (level_limit names shapes.levels name))
 
 -- so a name without length has an empty value
-pub empty_there : (names : List (List ℕ × Meaning)) (shapes : Shapes) (n : ℕ) (name : List ℕ) → AreShapes names shapes → n ≤ shapes.levels
+pub empty_there : (names : List (List ℕ × Kept)) (shapes : Shapes) (n : ℕ) (name : List ℕ) → AreShapes names shapes → n ≤ shapes.levels
     → is_ok (level_value names n name) ≡ true → shape_named names shapes name ≡ Long 0 → content (level_value names n name) ≡ []
 empty_there names shapes n name are h there none =
     let is = is_there (level_value names n name) there in
@@ -52,7 +51,7 @@ empty_there names shapes n name are h there none =
     same_length n e = cc
 
 -- what counts behind a piece, by the shapes and by the values
-behind_there : (names : List (List ℕ × Meaning)) (shapes : Shapes) (n : ℕ) (mode : Mode) (token : Token) (bytes : List ℕ) → AreShapes names shapes → n ≤ shapes.levels
+behind_there : (names : List (List ℕ × Kept)) (shapes : Shapes) (n : ℕ) (mode : Mode) (token : Token) (bytes : List ℕ) → AreShapes names shapes → n ≤ shapes.levels
     → added (level_value names n) mode token ≡ Ok bytes
     → behind (choice_behind names shapes token) mode token ≡ behind (behind_choice (level_value names n (choice_name token))) mode token
 behind_there names shapes n (ToOtherwise k) token bytes are h e = refl
@@ -72,13 +71,13 @@ behind_there names shapes n Counts Otherwise bytes are h e = refl
 behind_there names shapes n Counts End bytes are h e = refl
 
 -- one piece of a value that is there, and the others
-pub record Piece (names : List (List ℕ × Meaning)) (shapes : Shapes) (n : ℕ) (mode : Mode) (token : Token) (rest : List Token) : Type 0 where
+pub record Piece (names : List (List ℕ × Kept)) (shapes : Shapes) (n : ℕ) (mode : Mode) (token : Token) (rest : List Token) : Type 0 where
   pub adds : is_ok (added (level_value names n) mode token) ≡ true
   pub others : is_ok (run (level_value names n) (behind (choice_behind names shapes token) mode token) rest) ≡ true
   pub whole : content (run (level_value names n) mode (token ∷ rest))
       ≡ content (added (level_value names n) mode token) ++ content (run (level_value names n) (behind (choice_behind names shapes token) mode token) rest)
 
-pub piece : (names : List (List ℕ × Meaning)) (shapes : Shapes) (n : ℕ) (mode : Mode) (token : Token) (rest : List Token) → AreShapes names shapes → n ≤ shapes.levels
+pub piece : (names : List (List ℕ × Kept)) (shapes : Shapes) (n : ℕ) (mode : Mode) (token : Token) (rest : List Token) → AreShapes names shapes → n ≤ shapes.levels
     → is_ok (run (level_value names n) mode (token ∷ rest)) ≡ true → Piece names shapes n mode token rest
 piece names shapes n mode token rest are h there =
     let v = level_value names n in
@@ -104,25 +103,25 @@ limit_there (Ok bytes) h =
     unless_long t b = if t then Err TooLong else Ok b
 limit_there (Err flaw) h = refl
 
-pub text_there : (names : List (List ℕ × Meaning)) (n : ℕ) (name : List ℕ) (tokens : List Token) → meaning_in names name ≡ Some (meaning.Text tokens)
+pub text_there : (names : List (List ℕ × Kept)) (n : ℕ) (name : List ℕ) (tokens : List Token) → meaning_in names name ≡ Some (Is (Some tokens))
     → is_ok (level_value names (n + 1) name) ≡ true → level_value names (n + 1) name ≡ run (level_value names n) Counts tokens
 text_there names n name tokens is there =
-    let next = next_meaning names n name (Some (meaning.Text tokens)) is in
+    let next = next_meaning names n name (Some (Is (Some tokens))) is in
     next ∙ limit_there (run (level_value names n) Counts tokens) (ap is_ok (sym next) ∙ there)
 
-pub domain_there : (names : List (List ℕ × Meaning)) (n : ℕ) (name host : List ℕ) → meaning_in names name ≡ Some (meaning.DomainOf host)
+pub domain_there : (names : List (List ℕ × Kept)) (n : ℕ) (name host : List ℕ) → meaning_in names name ≡ Some (DomainOf host)
     → level_value names (n + 1) name ≡ domain_of (level_value names n host)
-domain_there names n name host is = next_meaning names n name (Some (meaning.DomainOf host)) is
+domain_there names n name host is = next_meaning names n name (Some (DomainOf host)) is
 
 pub host_there : (x : Answer) → is_ok (domain_of x) ≡ true → is_ok x ≡ true
 host_there (Ok host) h = refl
 host_there (Err flaw) h = h
 
-pub none_there : (names : List (List ℕ × Meaning)) (n : ℕ) (name : List ℕ) → meaning_in names name ≡ None → content (level_value names (n + 1) name) ≡ []
+pub none_there : (names : List (List ℕ × Kept)) (n : ℕ) (name : List ℕ) → meaning_in names name ≡ None → content (level_value names (n + 1) name) ≡ []
 none_there names n name is = ap content (next_meaning names n name None is)
 
-pub bad_there : (names : List (List ℕ × Meaning)) (n : ℕ) (name : List ℕ) → meaning_in names name ≡ Some meaning.BadForm → is_ok (level_value names (n + 1) name) ≡ true → ⊥
-bad_there names n name is there = cc_false (sym (ap is_ok (next_meaning names n name (Some meaning.BadForm) is)) ∙ there) where
+pub bad_there : (names : List (List ℕ × Kept)) (n : ℕ) (name : List ℕ) → meaning_in names name ≡ Some (Is None) → is_ok (level_value names (n + 1) name) ≡ true → ⊥
+bad_there names n name is there = cc_false (sym (ap is_ok (next_meaning names n name (Some (Is None)) is)) ∙ there) where
   cc_false : false ≡ true → ⊥
   cc_false e = cc
 
@@ -130,12 +129,12 @@ bad_there names n name is there = cc_false (sym (ap is_ok (next_meaning names n 
 pub one_less : (n : ℕ) → n ≢ 0 → n - 1 + 1 ≡ n
 one_less n h = omega (arith, h)
 
-pub zero_there : (names : List (List ℕ × Meaning)) (name : List ℕ) → is_ok (level_value names 0 name) ≡ true → ⊥
+pub zero_there : (names : List (List ℕ × Kept)) (name : List ℕ) → is_ok (level_value names 0 name) ≡ true → ⊥
 unfolding level_value
 zero_there names name h = cc
 
 -- one piece more was written of a value
-pub wrote_more : (names : List (List ℕ × Meaning)) (shapes : Shapes) (n : ℕ) (tokens : List Token) (i : ℕ) (mode after : Mode) (token : Token) (whole out new : List ℕ)
+pub wrote_more : (names : List (List ℕ × Kept)) (shapes : Shapes) (n : ℕ) (tokens : List Token) (i : ℕ) (mode after : Mode) (token : Token) (whole out new : List ℕ)
     → AreShapes names shapes → n ≤ shapes.levels → i < length tokens → token ≡ get_or tokens i token
     → whole ≡ out ++ content (run (level_value names n) mode (drop i tokens)) → is_ok (run (level_value names n) mode (drop i tokens)) ≡ true → depth_of mode ≤ i
     → new ≡ out ++ content (added (level_value names n) mode token) → after ≡ behind (choice_behind names shapes token) mode token

@@ -1,6 +1,7 @@
 -- The value of a text (postconf(5), main.cf format). The limits on depth and length, and which refusal comes first, are postgate's own.
 use Rattle.std.specs.Prelude.{ℕ, ◌++◌, zero, suc, nat_lt, List, [], ◌∷◌, Option, None, Some, Result, Ok, Err, length, if◌then◌else◌}
 use Rattle.std.specs.Option.{option_and_then, option_map}
+use Rattle.pf_base.specs.Options.{◌>>=◌}
 use Rattle.pf_expand.specs.Forms.{Part, first_part}
 use Rattle.pf_expand.specs.Forms.{Part as part}
 use Rattle.pf_expand.specs.declared.flaw.Flaw.{Flaw}
@@ -15,7 +16,10 @@ pub data Text : Type 0 where
 
 -- a choice of two texts, and the text behind it
 abbrev pub choice_of : List ℕ → Option Text → Option Text → Option Text → Option Text
-choice_of name full empty rest = option_and_then (λ f. option_and_then (λ e. option_map (choice name f e) rest) empty) full
+choice_of name full empty rest = do
+  f ← full
+  e ← empty
+  option_map (choice name f e) rest
 
 -- a part and what stands behind it, where texts are parted so
 abbrev pub parts_with : (List ℕ → Option Text) → Part × List ℕ → Option Text

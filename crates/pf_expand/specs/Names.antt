@@ -4,13 +4,10 @@ use Rattle.std.specs.Prelude.{ℕ, zero, suc, List, Option, None, Some, Ok, Err,
 use Rattle.std.specs.List.{position}
 use Rattle.std.specs.Str.{bytes_eq}
 use Rattle.pf_base.specs.Ascii as ascii
+use Rattle.pf_base.specs.Meanings.{Source}
+use Rattle.pf_base.specs.declared.meaning.Meaning.TheVariants.{Is, DomainOf}
 use Rattle.pf_expand.specs.Expansion.{Answer, text_value}
 use Rattle.pf_expand.specs.declared.flaw.Flaw.TheVariants.{TooDeep}
-
--- what a name stands for: a text, or the domain in the value of another name
-pub data Source : Type 0 where
-  text : List ℕ → Source
-  domain : List ℕ → Source
 
 -- what names stand for, with one that stands for something else now
 abbrev pub with_source : (List ℕ → Source) → List ℕ → Source → List ℕ → Source
@@ -30,8 +27,8 @@ domain_of (Err flaw) = Err flaw
 
 -- the value of what a name stands for, where names have these values
 abbrev pub source_value : (List ℕ → Answer) → Source → Answer
-source_value values (text t) = text_value values t
-source_value values (domain name) = domain_of (values name)
+source_value values (Is text) = text_value values text
+source_value values (DomainOf name) = domain_of (values name)
 
 -- the value of a name, with so many levels left
 unfoldable pub name_value : (List ℕ → Source) → ℕ → List ℕ → Answer

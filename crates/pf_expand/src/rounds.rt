@@ -1,6 +1,7 @@
 //! What is known of the values of names, level by level.
 ghost use Rattle.std.specs.Prelude.{◌≡◌, ◌+◌, ◌<◌, ◌↔◌, [], get_or, length, map, IfOk, IsTrue};
 ghost use Rattle.std.specs.Map.{keys_of};
+ghost use Rattle.pf_base.specs.declared.meaning.Meaning.TheVariants.{Is};
 ghost use Rattle.pf_expand.specs.Clauses.Levels.{AreShapes};
 ghost use Rattle.pf_expand.specs.Clauses.Meanings.{level_value, meaning_value};
 ghost use Rattle.pf_expand.specs.Names as expansion;
@@ -8,10 +9,11 @@ ghost use Rattle.pf_expand.specs.Clauses.Shapes.{shape_of};
 
 use crate::flaw::Flaw;
 use crate::lengths::{Shapes, pieces_shape, shape_named};
-use crate::names::{Meaning, Names};
+use crate::names::{Kept, Names};
 use crate::shape::{Shape, long};
+use crate::token::Token;
 use crate::write::{domain_in, write_name};
-use pf_base::{Bytes, List, NoMemory};
+use pf_base::{Bytes, List, Meaning, NoMemory};
 use std::alloc::Global;
 
 // The most levels of names.
@@ -37,19 +39,29 @@ fn domain_shape(
     }
 }
 
+// The shape of a text in its pieces, if it has its form.
+fn text_shape(names: &Names, shapes: &Shapes, text: &Option<List<Token>>) -> Shape
+    requires { AreShapes names.now shapes.now }
+    ensures { result ≡ shape_of (meaning_value (level_value names.now shapes.now.levels) (Is text.now)) }
+{
+    match text {
+        None => Shape::Flawed(Flaw::BadForm),
+        Some(tokens) => pieces_shape(names, shapes, tokens.as_slice()),
+    }
+}
+
 // The shape of what a name means.
 fn meaning_shape(
     alloc: Global,
     names: &Names,
     shapes: &Shapes,
-    meaning: &Meaning,
+    meaning: &Kept,
 ) -> Result<Shape, NoMemory>
     requires { AreShapes names.now shapes.now }
     ensures { IfOk result (λ shape. shape ≡ shape_of (meaning_value (level_value names.now shapes.now.levels) meaning.now)) }
 {
     match meaning {
-        Meaning::Text(tokens) => Ok(pieces_shape(names, shapes, tokens.as_slice())),
-        Meaning::BadForm => Ok(Shape::Flawed(Flaw::BadForm)),
+        Meaning::Is(text) => Ok(text_shape(names, shapes, text)),
         Meaning::DomainOf(host) => domain_shape(alloc, names, shapes, host),
     }
 }

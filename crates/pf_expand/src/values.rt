@@ -3,7 +3,8 @@ ghost use Rattle.std.specs.Prelude.{◌≡◌, ◌+◌, ℕ, List as Seq, IfOk};
 ghost use Rattle.pf_expand.specs.Expansion.{text_value};
 ghost use Rattle.pf_expand.specs.Clauses.Levels.{AreShapes};
 ghost use Rattle.pf_expand.specs.Clauses.Meanings.{AreNames, level_value};
-ghost use Rattle.pf_expand.specs.Names.{Source, depth_limit, expanded, name_value};
+ghost use Rattle.pf_base.specs.Meanings.{Source};
+ghost use Rattle.pf_expand.specs.Names.{depth_limit, expanded, name_value};
 
 use crate::flaw::Flaw;
 use crate::lengths::{Shapes, pieces_shape};
@@ -27,9 +28,9 @@ impl Model for Values {
     ghost use Rattle.std.specs.Prelude.{◌≡◌, ℕ, List as Seq};
     ghost use Rattle.pf_expand.specs.Clauses.Levels.{AreShapes};
     ghost use Rattle.pf_expand.specs.Names.{depth_limit};
-    ghost use Rattle.pf_expand.specs.declared.names.Meaning.{Meaning};
+    ghost use Rattle.pf_expand.specs.Clauses.Meanings.{Kept};
 
-    ghost Value = { Seq (Seq ℕ × Meaning) };
+    ghost Value = { Seq (Seq ℕ × Kept) };
 
     ghost view = { λ s. s.names };
 

@@ -8,11 +8,11 @@ ghost use Rattle.pf_expand.specs.Clauses.Runs as runs;
 ghost use Rattle.pf_expand.specs.declared.run.Mode.TheVariants.{Counts};
 
 use crate::lengths::{Shapes, choice_behind, shape_named};
-use crate::names::{Meaning, Names};
+use crate::names::Names;
 use crate::run::{Mode, behind};
 use crate::shape::Shape;
 use crate::token::Token;
-use pf_base::{Bytes, NoMemory};
+use pf_base::{Bytes, Meaning, NoMemory};
 use std::alloc::Global;
 
 fn dot_place(host: &[u8]) -> Option<usize>
@@ -142,8 +142,8 @@ pub(crate) fn write_meaning(
 {
     match names.get(name) {
         None => Ok(()),
-        Some(Meaning::BadForm) => Ok(()),
-        Some(Meaning::Text(tokens)) => {
+        Some(Meaning::Is(None)) => Ok(()),
+        Some(Meaning::Is(Some(tokens))) => {
             write_pieces(alloc, names, shapes, tokens.as_slice(), levels, out)
         }
         Some(Meaning::DomainOf(host)) => write_domain(alloc, names, shapes, host, levels, out),

@@ -3,6 +3,7 @@ use Rattle.std.proofs.Common.{◌≡◌, ℕ, ◌+◌, true, List, [], ◌∷◌
 use Rattle.std.specs.Prelude.{map}
 use Rattle.std.specs.List.{list_all}
 use Rattle.std.specs.Option.{option_map}
+use Rattle.pf_base.proofs.LineEnds.{parts_are}
 use Rattle.pf_base.specs.Lines.{without_return}
 use Rattle.pf_base.specs.Logical.{Grouped, Physical, alone, grouped, is_ignored, numbered, physical_lines, starts_with_space, unless_ignored}
 use Rattle.pf_base.specs.declared.logical.Logical.{Logical}
@@ -13,7 +14,7 @@ use Rattle.pf_maincf.specs.declared.setting.Setting.{Setting}
 use Rattle.pf_maincf.proofs.EditedLines.{AllSets, AreWritten, after, lines_appended, lines_edited, logical_after, none_leading}
 use Rattle.pf_maincf.proofs.Ends.{either_option, either_way}
 use Rattle.pf_maincf.proofs.Entries.{IsRead, Says, is_read, plain, read_again, says_append, says_settings, settings_said}
-use Rattle.pf_maincf.proofs.Joined.{Texts, fold_line, joined, parts, texts_joined, then_texts}
+use Rattle.pf_maincf.proofs.Joined.{Texts, fold_line, joined, parts, texts_joined, texts_of, then_texts}
 use Rattle.pf_maincf.proofs.LastSettings.{Rises, last_changed, lines_of, missing, put, settings_after, value_of_each}
 use Rattle.pf_maincf.proofs.SetLines.{IsSet, and_left, and_right, is_set_is, set_text, text_says}
 
@@ -90,7 +91,7 @@ edited_is_read file text sets old each r =
     let texts : joined (parts T) ≡ then_texts (after P None g) (record { leading = []; logical = map set_text (missing P) }) =
     lines_appended (missing P) (edited_lines P text) absent
     ∙ ap (λ (t : Texts). then_texts t (record { leading = []; logical = map set_text (missing P) })) (lines_edited P text w) in
-    let all = texts_joined 1 (parts T) ∙ texts in
+    let all = ap (λ ps. texts_of (grouped (numbered 1 ps))) (parts_are T) ∙ texts_joined 1 (parts T) ∙ texts in
     let none : map (λ (p : Physical). p.text) (grouped (physical_lines T)).leading ≡ [] =
     ap (λ (t : Texts). t.leading) all ∙ rw r.leading (none_leading None) in
     let logical : map (λ (l : Logical). l.text) (grouped (physical_lines T)).logical ≡ map (logical_after P) g.logical ++ map set_text (missing P) =
@@ -119,7 +120,7 @@ law_of file text after sets (Ok old) a read h =
     let is = edited_is_read file text sets old a.each r in
     let e : edited_text (map (placed old.settings) sets) text ≡ after = cc in
     let rises : Rises 1 (lines_of old.settings) =
-    subst (Rises 1) (says_settings file (grouped (physical_lines text)).logical old.settings r.settings).1 (rises_grouped 1 (parts text)) in
+    subst (Rises 1) (says_settings file (grouped (physical_lines text)).logical old.settings r.settings).1 (subst (λ ps. Rises 1 (map (λ (l : Logical). l.line) (grouped (numbered 1 ps)).logical)) (sym (parts_are text)) (rises_grouped 1 (parts text))) in
     record {
       old = old;
       new = record { file = file; settings = is.new };

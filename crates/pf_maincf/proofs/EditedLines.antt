@@ -5,7 +5,7 @@ use Rattle.std.specs.List.{fold}
 use Rattle.pf_base.specs.Lines.{lines, rest, without_return}
 use Rattle.pf_base.specs.Logical.{Physical, Grouped, alone, grouped, is_ignored, numbered, physical_lines, starts_with_space, unless_ignored}
 use Rattle.pf_base.specs.declared.logical.Logical.{Logical}
-use Rattle.pf_base.proofs.LineEnds.{lines-append, rest-append}
+use Rattle.pf_base.proofs.LineEnds.{lines-append, lines-cons, lines-nil, parts_are, rest-append, rest-cons, rest-nil}
 use Rattle.std.proofs.lemmas.Bool.{eqb-true}
 use Rattle.pf_maincf.specs.Edit.{Line, blocks_from, edited_lines, feed_behind, is_ended, set_at, set_line, with_line}
 use Rattle.pf_maincf.specs.Clauses.Editing.{blocks_left, line_left, set_from}
@@ -40,6 +40,9 @@ parts_at line X h = rw (append_assoc line (10 ∷ []) X, lines_at line X h, rest
 
 parts_alone : (line : List ℕ) → has_feed line ≡ false → parts line ≡ line ∷ []
 parts_alone line h = rw (lines_none line h, rest_none line h)
+
+parts_nil : parts [] ≡ [] ∷ []
+parts_nil = rw (lines-nil, rest-nil)
 
 -- the line of a set before others begins a logical line of its own
 set_before : (set : Setting) (X : List ℕ) → IsSet set
@@ -80,7 +83,7 @@ one_more sets set number line X g written stays behind =
     (set_before s X (written number s is) ∙ ap (onto (set_text s)) (rw is at here)))))
 
 stays_alone : (line : List ℕ) → has_feed line ≡ false → Stays line [] []
-stays_alone line h = rw (append-nil (line ++ []), append-nil line, parts_alone line h)
+stays_alone line h = rw (append-nil (line ++ []), append-nil line, parts_alone line h, parts_nil)
 
 stays_before : (line X : List ℕ) → has_feed line ≡ false → Stays line (10 ∷ []) X
 stays_before line X h = rw (parts_at line X h)
@@ -95,7 +98,7 @@ edited_from sets written set number [] last clean feed =
     let line : Line = record { text = last; feed = [] } in
     rw (left_more sets set number line (record { front = []; blocks = [] }))
     (one_more sets set number line [] (record { leading = []; logical = [] }) written (stays_alone last feed)
-    (sym (ap (λ (l : List (List ℕ)). let T : Texts = record { leading = l; logical = [] } in T) (none_leading (set_from sets set number last)))))
+    (ap joined parts_nil ∙ sym (ap (λ (l : List (List ℕ)). let T : Texts = record { leading = l; logical = [] } in T) (none_leading (set_from sets set number last)))))
 edited_from sets written set number (first ∷ ls) last clean feed =
     let line : Line = record { text = first; feed = 10 ∷ [] } in
     let behind = blocks_from (number + 1) (lines_with ls last) in
@@ -106,7 +109,9 @@ edited_from sets written set number (first ∷ ls) last clean feed =
 
 -- each logical line of an edited text is the one that was there, or the line of the set at it
 pub lines_edited : (sets : List Setting) (text : List ℕ) → AreWritten sets → joined (parts (edited_lines sets text)) ≡ after sets None (grouped (physical_lines text))
-lines_edited sets text written = edited_from sets written None 1 (lines text) (rest text) (clean_lines text) (clean_rest text)
+lines_edited sets text written =
+    edited_from sets written None 1 (lines text) (rest text) (clean_lines text) (clean_rest text)
+    ∙ ap (λ ps. after sets None (grouped (numbered 1 ps))) (sym (parts_are text))
 
 -- sets that lines can say
 abbrev pub AllSets : List Setting → Type 0
@@ -114,7 +119,7 @@ AllSets [] = Unit {0}
 AllSets (set ∷ sets) = IsSet set × AllSets sets
 
 no_item : (xs : List ℕ) → is_ended xs ≡ true → rest xs ≡ []
-no_item [] h = refl
+no_item [] h = rest-nil
 no_item (x ∷ xs) h = none (rest (x ∷ xs)) (eqb-true (length (rest (x ∷ xs))) 0 h) where
   none : (r : List ℕ) → length r ≡ 0 → r ≡ []
   none [] h = refl
@@ -125,6 +130,12 @@ pub record IsEnded (text : List ℕ) (before : List ℕ) : Type 0 where
   pub none : rest text ≡ []
   pub same : joined (lines text) ≡ joined (parts before)
 
+feed_lines : lines (10 ∷ []) ≡ [] ∷ []
+feed_lines = lines-cons 10 [] ∙ ap (λ L. [] ∷ L) lines-nil
+
+feed_rest : rest (10 ∷ []) ≡ []
+feed_rest = rest-cons 10 [] ∙ rest-nil
+
 ended : (X : List ℕ) → IsEnded (X ++ feed_behind X) X
 ended X =
     either_way (is_ended X)
@@ -133,8 +144,8 @@ ended X =
       same = rw (no_item X h, joined_append (lines X) ([] ∷ []) refl, append-nil (joined (lines X)).logical);
     }))
     (λ h. rw h (record {
-      none = rw (rest-append X (10 ∷ []));
-      same = rw (lines-append X (10 ∷ []), append-nil (rest X));
+      none = rw (rest-append X (10 ∷ []), feed_lines, feed_rest);
+      same = rw (lines-append X (10 ∷ []), feed_lines, append-nil (rest X));
     }))
 
 alone_joined : (set : Setting) → IsSet set → joined (set_text set ∷ [] ∷ []) ≡ record { leading = []; logical = set_text set ∷ [] }
@@ -143,8 +154,8 @@ alone_joined set s = rw (text_whole set s, text_is_not_ignored set s, text_begin
 behind_ended : (Y X : List ℕ) (set : Setting) → IsEnded Y X → IsSet set
     → joined (parts (Y ++ set_line set)) ≡ then_texts (joined (parts X)) (record { leading = []; logical = set_text set ∷ [] })
 behind_ended Y X set e s =
-    let cut : lines (set_line set) ≡ set_text set ∷ [] = lines_at (set_text set) [] (text_feed set s) in
-    let none : rest (set_line set) ≡ [] = rest_at (set_text set) [] (text_feed set s) in
+    let cut : lines (set_line set) ≡ set_text set ∷ [] = lines_at (set_text set) [] (text_feed set s) ∙ ap (λ L. set_text set ∷ L) lines-nil in
+    let none : rest (set_line set) ≡ [] = rest_at (set_text set) [] (text_feed set s) ∙ rest-nil in
     let alone = alone_joined set s in
     rw (
       lines-append Y (set_line set),

@@ -4,6 +4,7 @@ use Rattle.std.specs.Prelude.{map, take, drop}
 use Rattle.std.specs.List.{position}
 use Rattle.std.specs.Option.{option_map}
 use Rattle.pf_base.specs.Logical.{Grouped, Physical, grouped, physical_lines}
+use Rattle.pf_base.specs.Results.{◌>>=◌}
 use Rattle.pf_base.specs.Space.{trimmed}
 use Rattle.pf_base.specs.declared.logical.Logical.{Logical}
 use Rattle.pf_base.specs.declared.refused.Refused.{Refused}
@@ -51,7 +52,7 @@ record IsNext (file : List ℕ) (l : Logical) (ls : List Logical) (settings : Li
   is : first ∷ behind ≡ settings
 
 next_is : (file : List ℕ) (l : Logical) (ls : List Logical) (settings : List Setting) (o : Option Setting) (R : Result (List Setting) Refused)
-    → setting_of l ≡ o → settings_of file ls ≡ R → or_refused file l o R ≡ Ok settings → IsNext file l ls settings
+    → setting_of l ≡ o → settings_of file ls ≡ R → (or_refused file l o >>= (λ first. R >>= (λ behind. Ok (first ∷ behind)))) ≡ Ok settings → IsNext file l ls settings
 next_is file l ls settings None R a b h = cc
 next_is file l ls settings (Some s) (Err fault) a b h = either_way (is_name s.name) (λ k. let no = rw k at h in cc) (λ k. let no = rw k at h in cc)
 next_is file l ls settings (Some s) (Ok behind) a b h =

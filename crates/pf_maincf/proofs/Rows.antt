@@ -1,10 +1,11 @@
 -- Worked examples of the definitions, each by computation.
 use Rattle.std.proofs.Common.{◌≡◌, [], ◌∷◌, None, Some, Ok, Err, List, ℕ, true, false, map, refl, codes}
 use Rattle.std.specs.List.{list_all}
+use Rattle.pf_base.specs.Lines.{lines, rest}
 use Rattle.pf_base.specs.declared.logical.Logical.{Logical}
 use Rattle.pf_base.specs.declared.refused.Cause.TheVariants.{C1, C2, C3}
 use Rattle.pf_maincf.specs.Edit.{AreSets, Line, blocks_from, differ, edited, edited_by, is_ended, is_set, lines_in, placed, set_line}
-use Rattle.pf_maincf.specs.Settings.{before, conf_of, conf_with, is_name, is_name_byte, last_setting, or_refused, refused, setting_of, settings_in, settings_of}
+use Rattle.pf_maincf.specs.Settings.{conf_of, conf_with, is_name, is_name_byte, last_setting, or_refused, refused, setting_of, settings_in, settings_of}
 use Rattle.pf_maincf.specs.declared.setting.Setting.{Setting}
 
 -- two settings, and a line without an equals sign
@@ -57,29 +58,14 @@ bytes_of_names = refl
 names_nothing : refused (codes "main.cf") 5 C2 ≡ record { file = codes "main.cf"; line = 5; cause = C2; name = [] }
 names_nothing = refl
 
--- settings before others
-front_first : before (first ∷ []) (Ok (second ∷ [])) ≡ Ok (first ∷ second ∷ [])
-front_first = refl
-
-refusal_behind : before (first ∷ []) (Err (refused (codes "main.cf") 5 C2)) ≡ Err (refused (codes "main.cf") 5 C2)
-refusal_behind = refl
-
 -- a setting or its refusal
-setting_before_others : or_refused (codes "main.cf") bare (Some first) (Ok (second ∷ [])) ≡ Ok (first ∷ second ∷ [])
-setting_before_others = refl
+setting_of_a_line : or_refused (codes "main.cf") bare (Some first) ≡ Ok first
+setting_of_a_line = refl
 
-setting_before_a_refusal : or_refused (codes "main.cf") bare (Some first) (Err (refused (codes "main.cf") 7 C3)) ≡ Err (refused (codes "main.cf") 7 C3)
-setting_before_a_refusal = refl
-
-refusal_at_the_first_physical_line : or_refused (codes "main.cf") bare None (Ok (second ∷ []))
-    ≡ Err (record { file = codes "main.cf"; line = 5; cause = C2; name = [] })
+refusal_at_the_first_physical_line : or_refused (codes "main.cf") bare None ≡ Err (record { file = codes "main.cf"; line = 5; cause = C2; name = [] })
 refusal_at_the_first_physical_line = refl
 
-refusal_before_a_refusal : or_refused (codes "main.cf") bare None (Err (refused (codes "main.cf") 7 C3))
-    ≡ Err (record { file = codes "main.cf"; line = 5; cause = C2; name = [] })
-refusal_before_a_refusal = refl
-
-bad_name : or_refused (codes "main.cf") bare (Some (record { line = 5; name = []; value = codes "1" })) (Ok (second ∷ []))
+bad_name : or_refused (codes "main.cf") bare (Some (record { line = 5; name = []; value = codes "1" }))
     ≡ Err (record { file = codes "main.cf"; line = 5; cause = C3; name = [] })
 bad_name = refl
 
@@ -225,6 +211,7 @@ lines_in_blocks : blocks_from 1 (lines_in (codes "# top\na = 1\n\t2\r\n # mid\nb
       blocks = record { line = 2; lines = ended_by_a_feed (codes "a = 1") ∷ ended_by_a_feed (codes "\t2\r") ∷ ended_by_a_feed (codes " # mid") ∷ [] }
           ∷ record { line = 5; lines = ended_by_a_feed (codes "b = 3") ∷ record { text = []; feed = [] } ∷ [] } ∷ [];
     }
+unfolding lines rest
 lines_in_blocks = refl
 
 set_in_a_block : edited_by (record { line = 2; lines = ended_by_a_feed (codes "a = 1") ∷ ended_by_a_feed (codes "# c") ∷ ended_by_a_feed (codes " 2") ∷ [] })
@@ -234,6 +221,7 @@ set_in_a_block = refl
 
 ended_texts : map is_ended ([] ∷ codes "a\n" ∷ codes "\n\n" ∷ codes "a" ∷ codes "a\nb" ∷ codes "a\n\r" ∷ [])
     ≡ false ∷ true ∷ true ∷ false ∷ false ∷ false ∷ []
+unfolding rest
 ended_texts = refl
 
 -- edits
@@ -243,35 +231,35 @@ relay_domains = set_to (codes "relay_domains") (codes "example.org")
 continued_setting_with_a_comment_inside : edited (codes "main.cf")
     (codes "# top\nrelay_domains = example.net\n  , example.org\n# mid\nmyhostname = mx.example.com\n") (relay_domains ∷ [])
     ≡ Ok (codes "# top\nrelay_domains = example.org\n# mid\nmyhostname = mx.example.com\n")
-unfolding edited conf_of
+unfolding edited conf_of lines rest
 continued_setting_with_a_comment_inside = refl
 
 ignored_lines_come_behind : edited (codes "main.cf") (codes "a = 1\n # c\n 2\n \t\n\n 3\nb = 4\n") (set_to (codes "a") (codes "5") ∷ [])
     ≡ Ok (codes "a = 5\n # c\n \t\n\nb = 4\n")
-unfolding edited conf_of
+unfolding edited conf_of lines rest
 ignored_lines_come_behind = refl
 
 last_of_a_name_gives_way : edited (codes "main.cf") (codes "a = 1\nb = 2\na = 3\nb = 4\n") (set_to (codes "a") (codes "5") ∷ [])
     ≡ Ok (codes "a = 1\nb = 2\na = 5\nb = 4\n")
-unfolding edited conf_of
+unfolding edited conf_of lines rest
 last_of_a_name_gives_way = refl
 
 returns_stay_where_nothing_is_set : edited (codes "main.cf") (codes "a = 1\r\n 2\r\n\r\nb = 3\r\n") (set_to (codes "a") (codes "5") ∷ [])
     ≡ Ok (codes "a = 5\n\r\nb = 3\r\n")
-unfolding edited conf_of
+unfolding edited conf_of lines rest
 returns_stay_where_nothing_is_set = refl
 
 no_last_line_feed : edited (codes "main.cf") (codes "a = 1\nb = 2") (set_to (codes "a") (codes "5") ∷ []) ≡ Ok (codes "a = 5\nb = 2")
-unfolding edited conf_of
+unfolding edited conf_of lines rest
 no_last_line_feed = refl
 
 last_line_gives_way : edited (codes "main.cf") (codes "a = 1\nb = 2") (set_to (codes "b") [] ∷ []) ≡ Ok (codes "a = 1\nb = \n")
-unfolding edited conf_of
+unfolding edited conf_of lines rest
 last_line_gives_way = refl
 
 empty_value_with_a_comment_inside : edited (codes "main.cf") (codes "# top\na = 1,\n  # c\n  2\nb = 3\n") (set_to (codes "a") [] ∷ [])
     ≡ Ok (codes "# top\na = \n  # c\nb = 3\n")
-unfolding edited conf_of
+unfolding edited conf_of lines rest
 empty_value_with_a_comment_inside = refl
 
 empty_value_is_read_back : conf_of (codes "main.cf") (codes "# top\na = \n  # c\nb = 3\n")
@@ -285,18 +273,18 @@ empty_value_is_read_back = refl
 new_names_behind_a_line_feed : edited (codes "main.cf") (codes "a = 1\n# c")
     (set_to (codes "c") (codes "3") ∷ set_to (codes "a") (codes "2") ∷ set_to (codes "b") [] ∷ [])
     ≡ Ok (codes "a = 2\n# c\nc = 3\nb = \n")
-unfolding edited conf_of
+unfolding edited conf_of lines rest
 new_names_behind_a_line_feed = refl
 
 empty_text : edited (codes "main.cf") [] (set_to (codes "a") (codes "1") ∷ []) ≡ Ok (codes "\na = 1\n")
-unfolding edited conf_of
+unfolding edited conf_of lines rest
 empty_text = refl
 
 nothing_set : edited (codes "main.cf") (codes "a=1\r\n  \n 2") [] ≡ Ok (codes "a=1\r\n  \n 2")
-unfolding edited conf_of
+unfolding edited conf_of lines rest
 nothing_set = refl
 
 refused_text_is_not_edited : edited (codes "main.cf") (codes "a = 1\nb\n") (set_to (codes "a") (codes "5") ∷ [])
     ≡ Err (record { file = codes "main.cf"; line = 2; cause = C2; name = [] })
-unfolding edited conf_of
+unfolding edited conf_of lines rest
 refused_text_is_not_edited = refl

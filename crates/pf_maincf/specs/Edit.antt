@@ -1,11 +1,12 @@
 -- The edit of a main.cf's text (postconf(1), -e): the last setting of each name that is set gives way to one line, and nothing else changes.
-use Rattle.std.specs.Prelude.{◌≡◌, ℕ, ◌+◌, ◌-◌, ◌==◌, ◌++◌, ◌&&◌, Bool, true, false, not, List, [], ◌∷◌, Option, None, Some, Result, Ok, Err, length, map, filter, slice_index, codes, if◌then◌else◌}
+use Rattle.std.specs.Prelude.{◌≡◌, ℕ, ◌+◌, ◌-◌, ◌==◌, ◌++◌, ◌&&◌, Bool, true, false, not, List, [], ◌∷◌, Option, None, Some, Result, Ok, length, map, filter, slice_index, codes, if◌then◌else◌}
 use Rattle.std.specs.List.{find, flat_map, fold, list_all, list_any}
 use Rattle.std.specs.Option.{option_map, option_or}
 use Rattle.std.specs.Str.{bytes_eq}
 use Rattle.pf_base.specs.Ascii as ascii
 use Rattle.pf_base.specs.Lines.{lines, rest, without_return}
 use Rattle.pf_base.specs.Logical.{is_ignored, starts_with_space}
+use Rattle.pf_base.specs.Results.{◌>>=◌}
 use Rattle.pf_base.specs.Space.{trimmed}
 use Rattle.pf_base.specs.declared.refused.Refused.{Refused}
 use Rattle.pf_maincf.specs.Settings.{Conf, conf_of, is_name, last_setting}
@@ -139,8 +140,9 @@ edited_text sets text = fold with_line (edited_lines sets text) (filter (λ set.
 
 -- the sets put into the text of a main.cf that was read
 abbrev pub edited_in : List Setting → List ℕ → Result Conf Refused → Result (List ℕ) Refused
-edited_in sets text (Ok conf) = Ok (edited_text (map (placed conf.settings) sets) text)
-edited_in sets text (Err refusal) = Err refusal
+edited_in sets text answer = do
+  conf ← answer
+  Ok (edited_text (map (placed conf.settings) sets) text)
 
 -- the text of a main.cf of this name after an edit
 unfoldable pub edited : List ℕ → List ℕ → List Setting → Result (List ℕ) Refused

@@ -1,10 +1,11 @@
 -- The settings of a main.cf (postconf(5), main.cf format).
-use Rattle.std.specs.Prelude.{ℕ, ◌+◌, ◌==◌, ◌++◌, ◌&&◌, ◌||◌, Bool, not, nat_le, nat_lt, List, [], ◌∷◌, Option, None, Some, Result, Ok, Err, length, reverse, take, drop, if◌then◌else◌}
+use Rattle.std.specs.Prelude.{ℕ, ◌+◌, ◌==◌, ◌&&◌, ◌||◌, Bool, not, nat_le, nat_lt, List, [], ◌∷◌, Option, None, Some, Result, Ok, Err, length, reverse, take, drop, if◌then◌else◌}
 use Rattle.std.specs.List.{find, list_all, position}
 use Rattle.std.specs.Option.{option_map}
 use Rattle.std.specs.Str.{bytes_eq}
 use Rattle.pf_base.specs.Ascii as ascii
 use Rattle.pf_base.specs.Logical.{Grouped, Physical, grouped, physical_lines}
+use Rattle.pf_base.specs.Results.{◌>>=◌}
 use Rattle.pf_base.specs.Space.{trimmed}
 use Rattle.pf_base.specs.declared.logical.Logical.{Logical}
 use Rattle.pf_base.specs.declared.refused.Cause.{Cause}
@@ -36,21 +37,18 @@ is_name name = nat_lt 0 (length name) && list_all is_name_byte name
 abbrev pub refused : List ℕ → ℕ → Cause → Refused
 refused file line cause = record { file = file; line = line; cause = cause; name = [] }
 
--- settings before others
-abbrev pub before : List Setting → Result (List Setting) Refused → Result (List Setting) Refused
-before front (Ok settings) = Ok (front ++ settings)
-before front (Err refusal) = Err refusal
+-- the setting of a line, or the refusal of one without an equals sign or with a bad name
+abbrev pub or_refused : List ℕ → Logical → Option Setting → Result Setting Refused
+or_refused file logical None = Err (refused file logical.line C2)
+or_refused file logical (Some setting) = if is_name setting.name then Ok setting else Err (refused file logical.line C3)
 
--- the setting of a line before those behind it, or the refusal of a line without an equals sign or with a bad name
-abbrev pub or_refused : List ℕ → Logical → Option Setting → Result (List Setting) Refused → Result (List Setting) Refused
-or_refused file logical None behind = Err (refused file logical.line C2)
-or_refused file logical (Some setting) behind =
-    if is_name setting.name then before (setting ∷ []) behind else Err (refused file logical.line C3)
-
--- the settings of logical lines in order
+-- the settings of logical lines in order, or the first of the lines that is refused
 abbrev pub settings_of : List ℕ → List Logical → Result (List Setting) Refused
 settings_of file [] = Ok []
-settings_of file (logical ∷ lines) = or_refused file logical (setting_of logical) (settings_of file lines)
+settings_of file (logical ∷ lines) = do
+  setting ← or_refused file logical (setting_of logical)
+  settings ← settings_of file lines
+  Ok (setting ∷ settings)
 
 -- settings, unless lines before them continue nothing
 abbrev pub unless_continued : List ℕ → List Physical → Result (List Setting) Refused → Result (List Setting) Refused
@@ -63,8 +61,9 @@ settings_in file g = unless_continued file g.leading (settings_of file g.logical
 
 -- a main.cf of these settings
 abbrev pub conf_with : List ℕ → Result (List Setting) Refused → Result Conf Refused
-conf_with file (Ok settings) = Ok (record { file = file; settings = settings })
-conf_with file (Err refusal) = Err refusal
+conf_with file answer = do
+  settings ← answer
+  Ok (record { file = file; settings = settings })
 
 -- a main.cf of this name and text
 unfoldable pub conf_of : List ℕ → List ℕ → Result Conf Refused

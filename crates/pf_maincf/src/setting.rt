@@ -1,6 +1,7 @@
 //! A setting of main.cf.
 ghost use Rattle.std.specs.Prelude.{◌≡◌, ◌==◌, IfOk};
 ghost use Rattle.std.specs.List.{list_all, position};
+ghost use Rattle.pf_base.specs.Ascii as ascii;
 ghost use Rattle.pf_maincf.specs.Settings as settings;
 
 use pf_base::{Bytes, Logical, NoMemory, trimmed};
@@ -36,7 +37,7 @@ pub fn is_name(name: &[u8]) -> bool
 
 // The place of the first equals sign.
 fn equals_sign(text: &[u8]) -> Option<usize>
-    ensures { result ≡ position (λ b. b == 61) text.now }
+    ensures { result ≡ position (λ b. b == ascii.equals_sign) text.now }
 {
     text.iter().position(|b| *b == b'=')
 }

@@ -1,5 +1,7 @@
 -- What is read of a parameter, and of all of them.
-use Rattle.std.proofs.Common.{◌≡◌, ℕ, ◌++◌, zero, suc, Bool, true, false, List, [], ◌∷◌, get_or, length, slice_get, Option, None, Some, Result, Ok, Err, is_some, refl, sym, ap, ◌∙◌, append_assoc, append-nil, if◌then◌else◌}
+use Rattle.std.proofs.Common.{◌≡◌, ℕ, ◌++◌, zero, suc, Bool, true, false, List, [], ◌∷◌, get_or, length, slice_get, Option, None, Some, Result, Ok, Err, refl, sym, ap, ◌∙◌, append_assoc, append-nil, if◌then◌else◌}
+use Rattle.std.specs.Result.{result_map_both}
+use Rattle.pf_base.specs.Results.{◌>>=◌}
 use Rattle.pf_base.specs.declared.refused.Cause.{Cause}
 use Rattle.pf_base.specs.declared.refused.Cause.TheVariants.{C14}
 use Rattle.pf_base.specs.declared.refused.Refused.{Refused}
@@ -8,9 +10,9 @@ use Rattle.pf_catalogue.specs.Values.{value_of}
 use Rattle.pf_catalogue.specs.declared.value.Value.{Value}
 use Rattle.pf_expand.specs.Expansion.{Answer}
 use Rattle.pf_expand.specs.Clauses.Meanings.{content}
-use Rattle.pf_maincf.specs.Settings.{last_setting}
 use Rattle.pf_params.specs.Accepted.{raw_of, said_by, text_of}
-use Rattle.pf_params.specs.Parameters.{before, line_of, may_stand, or_refused, raw_text, reading_from, reading_if, reading_of, readings_of, refusal_of}
+use Rattle.pf_params.specs.Clauses.Readings.{before, readings_of}
+use Rattle.pf_params.specs.Parameters.{is_set, line_of, may_stand, raw_text, reading_from, reading_if, reading_of, refusal_of}
 use Rattle.pf_params.specs.Settled.{Settled, value_alone}
 use Rattle.pf_params.specs.declared.readings.Reading.{Reading}
 
@@ -32,7 +34,7 @@ reading_is s row r is = by_value (value_alone s row.name) refl is where
 
     by_said : (v : Option Value) → value_of row.kind text ≡ v → reading_if s row text v ≡ Ok r → IsRead s row r
     by_said None said is = cc
-    by_said (Some v) said is = by_test (may_stand row.kind (is_some (last_setting s.settings row.name))) is where
+    by_said (Some v) said is = by_test (may_stand row.kind (is_set s row.name)) is where
       by_test : (t : Bool) → (if t then Ok (record { line = line_of s row.name; raw = raw_text s row text; text = text; value = v }) else Err C14) ≡ Ok r → IsRead s row r
       by_test true is =
           let same : record { line = line_of s row.name; raw = raw_text s row text; text = text; value = v } ≡ r = cc in
@@ -43,6 +45,10 @@ reading_is s row r is = by_value (value_alone s row.name) refl is where
             said = ap (value_of row.kind) there ∙ said ∙ ap (λ (x : Reading). Some x.value) same;
           }
       by_test false is = cc
+
+-- a reading or its refusal, before what is read of others
+abbrev pub or_refused : Settled → Row → Result Reading Cause → Result (List Reading) Refused → Result (List Reading) Refused
+or_refused s row x behind = result_map_both (λ reading. reading) (refusal_of s row.name) x >>= (λ reading. before (reading ∷ []) behind)
 
 -- all of them
 front_read : (s : Settled) (row : Row) (rows : List Row) (readings : List Reading) → readings_of s (row ∷ rows) ≡ Ok readings

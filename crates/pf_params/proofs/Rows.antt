@@ -1,6 +1,7 @@
 -- Worked examples of the definitions, each by computation.
 use Rattle.std.proofs.Common.{◌≡◌, ℕ, List, [], ◌∷◌, None, Some, Ok, Err, map, refl, codes}
 use Rattle.std.specs.List.{fold}
+use Rattle.pf_base.specs.declared.meaning.Meaning.TheVariants.{Is, DomainOf}
 use Rattle.pf_base.specs.TableTexts.{TableTexts}
 use Rattle.pf_base.specs.Words.{words_of}
 use Rattle.pf_base.specs.declared.refused.Cause.{Cause}
@@ -8,23 +9,22 @@ use Rattle.pf_base.specs.declared.refused.Cause.TheVariants.{C4, C5, C6, C14, C1
 use Rattle.pf_base.specs.declared.refused.Refused.{Refused}
 use Rattle.pf_base.specs.declared.table_texts.TableText.{TableText}
 use Rattle.pf_catalogue.specs.Catalogue.{Row, catalogue, row}
-use Rattle.pf_catalogue.specs.Catalogue.{Preset as preset}
 use Rattle.pf_catalogue.specs.declared.kind.Kind.TheVariants as kind
 use Rattle.pf_catalogue.specs.declared.value.Value.TheVariants.{Text, Number}
 use Rattle.pf_expand.specs.Expansion.{parts, text_value}
 use Rattle.pf_expand.specs.Forms.{first_part, form_of}
 use Rattle.pf_expand.specs.Names.{name_value}
-use Rattle.pf_expand.specs.Names.{Source as source}
 use Rattle.pf_expand.specs.declared.flaw.Flaw.TheVariants.{BadForm, TooDeep, TooLong}
 use Rattle.pf_maincf.specs.declared.setting.Setting.{Setting}
 use Rattle.pf_params.specs.Accepted.{restriction_lists, with_class, with_named, with_plain}
-use Rattle.pf_params.specs.Classes.{class_names, class_of, first_refusal, held_classes}
-use Rattle.pf_params.specs.Parameters.{line_of, raw_text, reading_of, readings_of, refusal_of, with_lesser}
-use Rattle.pf_params.specs.Presets.{preset_of, preset_source}
+use Rattle.pf_params.specs.Classes.{class_names, class_rows, classes_of}
+use Rattle.pf_params.specs.Clauses.Readings.{readings_of}
+use Rattle.pf_params.specs.Parameters.{line_of, raw_text, reading_of, refusal_of, refusals, with_lesser}
+use Rattle.pf_params.specs.Sources.{preset_of}
 use Rattle.pf_params.specs.Settled.{Settled, cause_of, settled, settled_source, value_in}
 
 -- each parameter stands for the default of its own row
-defaults_agree : map (λ (r : Row). preset_of r.name) catalogue ≡ map (λ (r : Row). preset_source r.preset) catalogue
+defaults_agree : map (λ (r : Row). preset_of r.name) catalogue ≡ map (λ (r : Row). r.preset) catalogue
 unfolding catalogue
 defaults_agree = refl
 
@@ -47,7 +47,7 @@ in_order = refl
 
 -- what names stand for: the last setting, a default, the domain in another value, and nothing
 sources : map (settled_source s) (codes "reject_code" ∷ codes "mail_name" ∷ codes "mydomain" ∷ codes "nosuch" ∷ [])
-    ≡ source.text (codes "$asked") ∷ source.text (codes "Postfix") ∷ source.domain (codes "myhostname") ∷ source.text [] ∷ []
+    ≡ Is (codes "$asked") ∷ Is (codes "Postfix") ∷ DomainOf (codes "myhostname") ∷ Is [] ∷ []
 unfolding catalogue
 sources = refl
 
@@ -56,29 +56,29 @@ lines : map (line_of s) (codes "reject_code" ∷ codes "unknown_address_reject_c
 lines = refl
 
 abbrev reject_code : Row
-reject_code = row (codes "reject_code") kind.Code (preset.text (codes "554"))
+reject_code = row (codes "reject_code") kind.Code (Is (codes "554"))
 
 abbrev mail_name : Row
-mail_name = row (codes "mail_name") kind.Text (preset.text (codes "Postfix"))
+mail_name = row (codes "mail_name") kind.Text (Is (codes "Postfix"))
 
 abbrev mydomain : Row
-mydomain = row (codes "mydomain") kind.Text (preset.domain_of (codes "myhostname"))
+mydomain = row (codes "mydomain") kind.Text (DomainOf (codes "myhostname"))
 
 abbrev defer_code : Row
-defer_code = row (codes "defer_code") kind.Code (preset.text (codes "450"))
+defer_code = row (codes "defer_code") kind.Code (Is (codes "450"))
 
 abbrev delay_reject : Row
-delay_reject = row (codes "smtpd_delay_reject") kind.FixedYes (preset.text (codes "yes"))
+delay_reject = row (codes "smtpd_delay_reject") kind.FixedYes (Is (codes "yes"))
 
 abbrev subdomains : Row
-subdomains = row (codes "parent_domain_matches_subdomains") kind.Unset (preset.text [])
+subdomains = row (codes "parent_domain_matches_subdomains") kind.Unset (Is [])
 
 -- texts before the values of names stand in them: as set, as the default stands there, and the value where that is taken out of another one
 raw_texts : map (λ (r : Row). raw_text s r (codes "value")) (reject_code ∷ mail_name ∷ mydomain ∷ []) ≡ codes "$asked" ∷ codes "Postfix" ∷ codes "value" ∷ []
 raw_texts = refl
 
 -- what is read: a set parameter, a default, and one that may not be set and is not
-read_parameters : readings_of s (reject_code ∷ mydomain ∷ row (codes "nosuch") kind.Unset (preset.text []) ∷ [])
+read_parameters : readings_of s (reject_code ∷ mydomain ∷ row (codes "nosuch") kind.Unset (Is []) ∷ [])
     ≡ Ok (record { line = 3; raw = codes "$asked"; text = codes "571"; value = Number 571 }
     ∷ record { line = 0; raw = codes "example.com"; text = codes "example.com"; value = Text }
     ∷ record { line = 0; raw = []; text = []; value = Text } ∷ [])
@@ -86,7 +86,7 @@ unfolding catalogue reading_of text_value parts first_part form_of name_value
 read_parameters = refl
 
 -- refusals: a text of no form, a value of another kind, a fixed one that is set to something else, and one that may not be set
-refused_parameters : map (reading_of s) (defer_code ∷ row (codes "myhostname") kind.Code (preset.text []) ∷ delay_reject ∷ subdomains ∷ [])
+refused_parameters : map (reading_of s) (defer_code ∷ row (codes "myhostname") kind.Code (Is []) ∷ delay_reject ∷ subdomains ∷ [])
     ≡ Err C5 ∷ Err C6 ∷ Err C14 ∷ Err C14 ∷ []
 unfolding catalogue reading_of text_value parts first_part form_of name_value
 refused_parameters = refl
@@ -115,14 +115,14 @@ unfolding catalogue reading_of text_value parts first_part form_of name_value wo
 class_names_read = refl
 
 -- classes: one that is set, one that is not, and one whose brace has no partner
-classes_held : held_classes s (codes "open" ∷ codes "nosuch" ∷ codes "local" ∷ [])
+classes_held : classes_of s (class_rows s (codes "open" ∷ codes "nosuch" ∷ codes "local" ∷ []))
     ≡ record { name = codes "local"; line = 8; items = codes "check_client_access" ∷ codes "hash:a" ∷ codes "permit" ∷ [] } ∷ []
-unfolding catalogue class_of text_value parts first_part form_of name_value words_of
+unfolding catalogue reading_of text_value parts first_part form_of name_value words_of
 classes_held = refl
 
-class_refused : first_refusal s (Some (refusal (codes "reject_code") C6)) (codes "nosuch" ∷ codes "open" ∷ codes "local" ∷ [])
+class_refused : fold with_lesser (Some (refusal (codes "reject_code") C6)) (refusals s (class_rows s (codes "nosuch" ∷ codes "open" ∷ codes "local" ∷ [])))
     ≡ Some (record { file = codes "main.cf"; line = 9; cause = C6; name = codes "open" })
-unfolding catalogue class_of text_value parts first_part form_of name_value words_of
+unfolding catalogue reading_of text_value parts first_part form_of name_value words_of
 class_refused = refl
 
 -- the value of a text, and its refusal, which has no line and no name
@@ -142,10 +142,10 @@ abbrev text_at : ℕ → List ℕ → TableText
 text_at line text = record { line = line; text = text }
 
 abbrev alias_maps : Row
-alias_maps = row (codes "alias_maps") kind.Maps (preset.text [])
+alias_maps = row (codes "alias_maps") kind.Maps (Is [])
 
 abbrev helo_restrictions : Row
-helo_restrictions = row (codes "smtpd_helo_restrictions") kind.Restrictions (preset.text [])
+helo_restrictions = row (codes "smtpd_helo_restrictions") kind.Restrictions (Is [])
 
 plain_texts : fold (with_plain s) no_texts (alias_maps ∷ helo_restrictions ∷ []) ≡ record no_texts { texts = text_at 13 (codes "hash:b") ∷ text_at 13 (codes "hash:d") ∷ [] }
 unfolding catalogue text_value parts first_part form_of name_value words_of

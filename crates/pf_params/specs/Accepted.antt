@@ -1,6 +1,6 @@
 -- The settings of a main.cf that are accepted, what is read of them, and their table texts (postconf(5)). Parameters and classes are looked at in
 -- byte order of their names, which is the order of the table; that order, and the order in which tables are opened, are postgate's own.
-use Rattle.std.specs.Prelude.{ℕ, Bool, true, false, List, [], ◌∷◌, Option, None, Some, Result, Ok, Err, codes, if◌then◌else◌}
+use Rattle.std.specs.Prelude.{ℕ, ◌++◌, Bool, true, false, List, [], ◌∷◌, Option, None, Some, Result, Ok, Err, codes, if◌then◌else◌}
 use Rattle.std.specs.List.{fold}
 use Rattle.std.specs.Option.{option_map_or}
 use Rattle.pf_base.specs.TableTexts.{TableTexts}
@@ -14,32 +14,22 @@ use Rattle.pf_catalogue.specs.declared.value.Value.{Value}
 use Rattle.pf_expand.specs.Clauses.Meanings.{content}
 use Rattle.pf_maincf.specs.Settings.{Conf}
 use Rattle.pf_maincf.specs.declared.setting.Setting.{Setting}
-use Rattle.pf_params.specs.Classes.{class_named, class_names, first_refusal, held_classes}
-use Rattle.pf_params.specs.Parameters.{items_in, line_of, raw_text, readings_of}
+use Rattle.pf_params.specs.Classes.{class_named, class_names, class_rows, classes_of}
+use Rattle.pf_params.specs.Parameters.{items_in, line_of, raw_text, refusals, with_lesser}
 use Rattle.pf_params.specs.Settled.{Settled, settled, value_alone}
 use Rattle.pf_params.specs.declared.classes.Class.{Class}
-use Rattle.pf_params.specs.declared.readings.Reading.{Reading}
 
--- the refusal of readings
-abbrev pub refused_reading : Result (List Reading) Refused → Option Refused
-refused_reading (Ok readings) = None
-refused_reading (Err refusal) = Some refusal
+-- what is looked at: the parameters, and the classes that are set
+abbrev pub rows_of : Settled → List Row
+rows_of s = catalogue ++ class_rows s (class_names s)
 
-abbrev pub held_readings : Result (List Reading) Refused → List Reading
-held_readings (Ok readings) = readings
-held_readings (Err refusal) = []
-
--- the refusal of settings: of the first parameter that is refused and of the classes the one whose name is least in byte order
+-- the refusal of settings: of all that are refused the one whose name is least in byte order, a parameter before a class of its name
 abbrev pub refusal_in : Settled → Option Refused
-refusal_in s = first_refusal s (refused_reading (readings_of s catalogue)) (class_names s)
-
-abbrev pub unless_refused : Settled → Option Refused → Result Settled Refused
-unless_refused s None = Ok s
-unless_refused s (Some refusal) = Err refusal
+refusal_in s = fold with_lesser None (refusals s (rows_of s))
 
 -- the settings of a main.cf with those that count after them, or their first refusal
 unfoldable pub accepted : Conf → List Setting → Result Settled Refused
-accepted conf over = unless_refused (settled conf over) (refusal_in (settled conf over))
+accepted conf over = option_map_or Err (refusal_in (settled conf over)) (Ok (settled conf over))
 
 -- the value of a parameter, and its text before the values of names stand in it
 abbrev pub text_of : Settled → Row → List ℕ
@@ -58,7 +48,7 @@ items_of s row = option_map_or items_in (said_by s row) []
 
 -- the classes that are set, and the items of one
 abbrev pub classes_in : Settled → List Class
-classes_in s = held_classes s (class_names s)
+classes_in s = classes_of s (class_rows s (class_names s))
 
 abbrev pub class_in : Settled → List ℕ → Option Class
 class_in s name = class_named (classes_in s) name

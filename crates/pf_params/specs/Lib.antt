@@ -1,6 +1,6 @@
 pub mod Accepted
 pub mod Classes
+pub mod Clauses
 pub mod Parameters
-pub mod Presets
 pub mod Settled
 pub mod Sources

@@ -1,13 +1,16 @@
 -- What is read of the parameters, and which is refused first (postconf(5)). The causes of refusals and their order are postgate's own.
-use Rattle.std.specs.Prelude.{ℕ, ◌++◌, Bool, true, not, List, [], ◌∷◌, Option, None, Some, Result, Ok, Err, is_some, if◌then◌else◌}
+use Rattle.std.specs.Prelude.{ℕ, Bool, true, not, List, [], Option, None, Some, Result, Ok, Err, is_some, if◌then◌else◌}
 use Rattle.std.specs.Cmp.Lexicographic.{slice_cmp}
+use Rattle.std.specs.List.{filter_map}
 use Rattle.std.specs.Option.{option_map_or}
 use Rattle.std.specs.Ordering.{nat_cmp, is_lt}
+use Rattle.std.specs.Result.{result_err, result_map_both}
+use Rattle.pf_base.specs.Meanings.{Source}
+use Rattle.pf_base.specs.declared.meaning.Meaning.TheVariants.{Is, DomainOf}
 use Rattle.pf_base.specs.declared.refused.Cause.{Cause}
 use Rattle.pf_base.specs.declared.refused.Cause.TheVariants.{C6, C14}
 use Rattle.pf_base.specs.declared.refused.Refused.{Refused}
-use Rattle.pf_catalogue.specs.Catalogue.{Preset, Row}
-use Rattle.pf_catalogue.specs.Catalogue.{Preset as preset}
+use Rattle.pf_catalogue.specs.Catalogue.{Row}
 use Rattle.pf_catalogue.specs.Values.{value_of}
 use Rattle.pf_catalogue.specs.declared.kind.Kind.{Kind}
 use Rattle.pf_catalogue.specs.declared.kind.Kind.TheVariants.{FixedYes, Unset}
@@ -18,6 +21,10 @@ use Rattle.pf_maincf.specs.Settings.{last_setting}
 use Rattle.pf_maincf.specs.declared.setting.Setting.{Setting}
 use Rattle.pf_params.specs.Settled.{Settled, cause_of, value_alone}
 use Rattle.pf_params.specs.declared.readings.Reading.{Reading}
+
+-- a name that is set
+abbrev pub is_set : Settled → List ℕ → Bool
+is_set settled name = is_some (last_setting settled.settings name)
 
 -- the line of the last setting of a name, 0 where it is not set
 abbrev pub line_of : Settled → List ℕ → ℕ
@@ -39,9 +46,9 @@ bad_value Unset = C14
 bad_value kind = C6
 
 -- the text of a default, which is the value where that is taken out of another one
-abbrev pub preset_text : Preset → List ℕ → List ℕ
-preset_text (preset.text bytes) value = bytes
-preset_text (preset.domain_of name) value = value
+abbrev pub preset_text : Source → List ℕ → List ℕ
+preset_text (Is bytes) value = bytes
+preset_text (DomainOf name) value = value
 
 -- the text of a parameter with this value
 abbrev pub raw_text : Settled → Row → List ℕ → List ℕ
@@ -51,7 +58,7 @@ raw_text settled row value = option_map_or (λ (s : Setting). s.value) (last_set
 abbrev pub reading_if : Settled → Row → List ℕ → Option Value → Result Reading Cause
 reading_if settled row text None = Err (bad_value row.kind)
 reading_if settled row text (Some value) =
-    if may_stand row.kind (is_some (last_setting settled.settings row.name))
+    if may_stand row.kind (is_set settled row.name)
     then Ok (record { line = line_of settled row.name; raw = raw_text settled row text; text = text; value = value })
     else Err C14
 
@@ -66,19 +73,16 @@ reading_from settled row (Err flaw) = Err (cause_of flaw)
 unfoldable pub reading_of : Settled → Row → Result Reading Cause
 reading_of settled row = reading_from settled row (value_alone settled row.name)
 
--- readings before others
-abbrev pub before : List Reading → Result (List Reading) Refused → Result (List Reading) Refused
-before front (Ok readings) = Ok (front ++ readings)
-before front (Err refusal) = Err refusal
+-- what is read of a parameter, or its refusal
+abbrev pub row_read : Settled → Row → Result Reading Refused
+row_read settled row = result_map_both (λ reading. reading) (refusal_of settled row.name) (reading_of settled row)
 
-abbrev pub or_refused : Settled → Row → Result Reading Cause → Result (List Reading) Refused → Result (List Reading) Refused
-or_refused settled row (Ok reading) behind = before (reading ∷ []) behind
-or_refused settled row (Err cause) behind = Err (refusal_of settled row.name cause)
+-- the refusals of parameters, in their order
+abbrev pub row_refusal : Settled → Row → Option Refused
+row_refusal settled row = result_err (row_read settled row)
 
--- what is read of these parameters in order, or the first refusal
-abbrev pub readings_of : Settled → List Row → Result (List Reading) Refused
-readings_of settled [] = Ok []
-readings_of settled (row ∷ rows) = or_refused settled row (reading_of settled row) (readings_of settled rows)
+abbrev pub refusals : Settled → List Row → List Refused
+refusals settled rows = filter_map (row_refusal settled) rows
 
 -- of two refusals the one whose name is less in byte order, the first where they have one name
 abbrev pub with_lesser : Option Refused → Refused → Option Refused

@@ -1,16 +1,17 @@
 -- The settings of a main.cf with those that count after them, and the values of texts in which they are named (postconf(5), main.cf format).
-use Rattle.std.specs.Prelude.{ℕ, ◌+◌, ◌++◌, Bool, true, false, List, [], Result, Ok, Err, map}
+use Rattle.std.specs.Prelude.{ℕ, ◌+◌, ◌++◌, Bool, true, false, List, [], Result, map}
+use Rattle.std.specs.Result.{result_map_both}
+use Rattle.pf_base.specs.Meanings.{Source}
 use Rattle.pf_base.specs.declared.refused.Cause.{Cause}
 use Rattle.pf_base.specs.declared.refused.Cause.TheVariants.{C4, C5, C16}
 use Rattle.pf_base.specs.declared.refused.Refused.{Refused}
 use Rattle.pf_expand.specs.Expansion.{Answer}
-use Rattle.pf_expand.specs.Names.{Source, depth_limit, expanded, name_value}
+use Rattle.pf_expand.specs.Names.{depth_limit, expanded, name_value}
 use Rattle.pf_expand.specs.declared.flaw.Flaw.{Flaw}
 use Rattle.pf_expand.specs.declared.flaw.Flaw.TheVariants.{BadForm, TooDeep, TooLong}
 use Rattle.pf_maincf.specs.Settings.{Conf}
 use Rattle.pf_maincf.specs.declared.setting.Setting.{Setting}
-use Rattle.pf_params.specs.Presets.{preset_of}
-use Rattle.pf_params.specs.Sources.{source_of}
+use Rattle.pf_params.specs.Sources.{preset_of, source_of}
 
 -- the name of the file, and all settings in order
 pub record Settled : Type 0 where
@@ -42,8 +43,7 @@ refused file flaw = record { file = file; line = 0; cause = cause_of flaw; name 
 
 -- a value, or its refusal
 abbrev pub or_refused : List ℕ → Answer → Result (List ℕ) Refused
-or_refused file (Ok bytes) = Ok bytes
-or_refused file (Err flaw) = Err (refused file flaw)
+or_refused file value = result_map_both (λ bytes. bytes) (refused file) value
 
 -- the value of a text
 abbrev pub value_in : Settled → List ℕ → Result (List ℕ) Refused

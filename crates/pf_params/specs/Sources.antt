@@ -1,15 +1,23 @@
--- What names stand for: the text of the last setting of a name, and else what stands there by default (postconf(5), main.cf format).
-use Rattle.std.specs.Prelude.{ℕ, List, Option, None, Some}
-use Rattle.pf_expand.specs.Names.{Source}
-use Rattle.pf_expand.specs.Names.{Source as source}
+-- What names stand for: the text of the last setting of a name, and else the default of the parameter of that name (postconf(5), main.cf
+-- format).
+use Rattle.std.specs.Prelude.{ℕ, List, []}
+use Rattle.std.specs.List.{find}
+use Rattle.std.specs.Option.{option_map_or}
+use Rattle.std.specs.Str.{bytes_eq}
+use Rattle.pf_base.specs.Meanings.{Source}
+use Rattle.pf_base.specs.declared.meaning.Meaning.TheVariants.{Is}
+use Rattle.pf_catalogue.specs.Catalogue.{Row, catalogue}
 use Rattle.pf_maincf.specs.Settings.{last_setting}
 use Rattle.pf_maincf.specs.declared.setting.Setting.{Setting}
 
--- the text of a setting
-abbrev pub set_or : Source → Option Setting → Source
-set_or preset None = preset
-set_or preset (Some setting) = source.text setting.value
+-- what a name stands for by the parameter of that name among these; an empty text where there is none
+abbrev pub preset_among : List Row → List ℕ → Source
+preset_among rows name = option_map_or (λ (r : Row). r.preset) (find (λ (r : Row). bytes_eq r.name name) rows) (Is [])
+
+-- what a name stands for that is not set
+abbrev pub preset_of : List ℕ → Source
+preset_of name = preset_among catalogue name
 
 -- what a name stands for, where these are set
 abbrev pub source_of : (List ℕ → Source) → List Setting → List ℕ → Source
-source_of presets settings name = set_or (presets name) (last_setting settings name)
+source_of presets settings name = option_map_or (λ (s : Setting). Is s.value) (last_setting settings name) (presets name)

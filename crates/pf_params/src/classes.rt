@@ -1,15 +1,15 @@
 //! The classes of restrictions that are set.
 ghost use Rattle.std.specs.Prelude.{◌≡◌, ◌∷◌, [], ◌++◌, IfOk};
-ghost use Rattle.std.specs.List.{filter_map, fold};
+ghost use Rattle.std.specs.List.{fold};
 ghost use Rattle.std.specs.Option.{option_copied, option_map};
 ghost use Rattle.pf_params.specs.Classes as spec;
 ghost use Rattle.pf_params.specs.Parameters as parameters;
 
 use crate::known::Known;
-use crate::readings::reading_of;
-use crate::refusals::{cause_of, lesser, refusal_of};
-use pf_base::{Bytes, Cause, List, NoMemory, Refused, WordsFault, words_of};
-use pf_catalogue::{Value, param};
+use crate::readings::{Reading, reading_of};
+use crate::refusals::{lesser, refusal_of};
+use pf_base::{Bytes, Cause, List, Meaning, NoMemory, Refused};
+use pf_catalogue::{Kind, Row, Value, param, param_row};
 use std::alloc::Global;
 
 /// A class: its name, the line of its last setting, and its items.
@@ -46,46 +46,25 @@ pub(crate) fn class_names(alloc: Global, known: &Known) -> Result<List<Bytes>, N
     let Some(p) = param(b"smtpd_restriction_classes") else {
         return Ok(List::new(alloc));
     };
-    match reading_of(alloc, known, p)? {
+    match reading_of(alloc, known, param_row(p))? {
         Err(_) => Ok(List::new(alloc)),
         Ok(reading) => Ok(items_in(alloc, reading.value)),
     }
 }
 
-// A class with this value.
-fn class_with(
+// What is read of a class, which is that of a parameter whose values are restrictions.
+fn class_reading(
     alloc: Global,
     known: &Known,
-    name: &Bytes,
-    line: u64,
-    text: &[u8],
-) -> Result<Result<Class, Cause>, NoMemory>
-    ensures { IfOk result (λ class. class ≡ spec.class_with name.now line text.now) }
+    name: &[u8],
+) -> Result<Result<Reading, Cause>, NoMemory>
+    ensures { IfOk result (λ reading. reading ≡ parameters.reading_of known.now (spec.class_row name.now)) }
 {
-    match words_of(alloc, text) {
-        Err(WordsFault::NoMemory) => Err(NoMemory),
-        Err(WordsFault::Unbalanced { .. }) => Ok(Err(Cause::C6)),
-        Ok(items) => Ok(Ok(Class {
-            name: name.copy(alloc)?,
-            line,
-            items,
-        })),
-    }
-}
-
-// A class that is set at a line, or the cause of its refusal.
-fn class_of(
-    alloc: Global,
-    known: &Known,
-    name: &Bytes,
-    line: u64,
-) -> Result<Result<Class, Cause>, NoMemory>
-    ensures { IfOk result (λ class. class ≡ spec.class_of known.now name.now line) }
-{
-    match known.name_value(alloc, name.as_slice())? {
-        Err(flaw) => Ok(Err(cause_of(flaw))),
-        Ok(text) => class_with(alloc, known, name, line, text.as_slice()),
-    }
+    reading_of(
+        alloc,
+        known,
+        Row(name, Kind::Restrictions, Meaning::Is(b"")),
+    )
 }
 
 // Adds a class of this name, if it is set.
@@ -95,15 +74,19 @@ fn add_class(
     name: &Bytes,
     classes: Classes,
 ) -> Result<Classes, NoMemory>
-    ensures held { IfOk result (λ more. more.held ≡ classes.held ++ filter_map (spec.held_class known.now) (name.now ∷ [])) }
-    ensures refusal { IfOk result (λ more. more.refusal ≡ fold parameters.with_lesser classes.refusal (filter_map (spec.class_refusal known.now) (name.now ∷ []))) }
+    ensures held { IfOk result (λ more. more.held ≡ classes.held ++ spec.classes_of known.now (spec.class_rows known.now (name.now ∷ []))) }
+    ensures refusal { IfOk result (λ more. more.refusal ≡ fold parameters.with_lesser classes.refusal (parameters.refusals known.now (spec.class_rows known.now (name.now ∷ [])))) }
 {
     let mut classes = classes;
-    let Some(setting) = known.last(name.as_slice()) else {
+    if !known.is_set(name.as_slice()) {
         return Ok(classes);
-    };
-    match class_of(alloc, known, name, setting.line)? {
-        Ok(class) => classes.held.push(class)?,
+    }
+    match class_reading(alloc, known, name.as_slice())? {
+        Ok(reading) => classes.held.push(Class {
+            name: name.copy(alloc)?,
+            line: reading.line,
+            items: items_in(alloc, reading.value),
+        })?,
         Err(cause) => {
             let refusal = refusal_of(alloc, known, name.as_slice(), cause)?;
             classes.refusal = Some(lesser(classes.refusal, refusal));
@@ -119,8 +102,8 @@ pub(crate) fn classes_of(
     names: &[Bytes],
     before: Option<Refused>,
 ) -> Result<Classes, NoMemory>
-    ensures held { IfOk result (λ classes. classes.held ≡ spec.held_classes known.now names.now) }
-    ensures refusal { IfOk result (λ classes. classes.refusal ≡ spec.first_refusal known.now before names.now) }
+    ensures held { IfOk result (λ classes. classes.held ≡ spec.classes_of known.now (spec.class_rows known.now names.now)) }
+    ensures refusal { IfOk result (λ classes. classes.refusal ≡ fold parameters.with_lesser before (parameters.refusals known.now (spec.class_rows known.now names.now))) }
 {
     let mut classes = Classes {
         held: List::new(alloc),
@@ -141,7 +124,7 @@ impl Known {
         alloc: Global,
         before: Option<Refused>,
     ) -> Result<Option<Refused>, NoMemory>
-        ensures { IfOk result (λ refusal. refusal ≡ spec.first_refusal self.now before (spec.class_names self.now)) }
+        ensures { IfOk result (λ refusal. refusal ≡ fold parameters.with_lesser before (parameters.refusals self.now (spec.class_rows self.now (spec.class_names self.now)))) }
     {
         let names = class_names(alloc, self)?;
         let classes = classes_of(alloc, self, names.as_slice(), before)?;

@@ -3,6 +3,7 @@ ghost use Rattle.std.specs.Prelude.{◌≡◌, ◌++◌, map, IfOk, OnOk};
 ghost use Rattle.std.specs.Option.{option_copied};
 ghost use Rattle.pf_expand.specs.Names.{expanded};
 ghost use Rattle.pf_maincf.specs.Settings.{last_setting};
+ghost use Rattle.pf_params.specs.Parameters.{is_set};
 ghost use Rattle.pf_params.specs.Settled as spec;
 
 use crate::table::{set_names, set_presets};
@@ -87,6 +88,13 @@ impl Known {
             .iter()
             .rev()
             .find(|setting| setting.name.as_slice() == name)
+    }
+
+    /// Whether a name is set.
+    pub fn is_set(&self, name: &[u8]) -> bool
+        ensures { result ≡ is_set self.now name.now }
+    {
+        self.last(name).is_some()
     }
 
     /// The value of a text, or why there is none.

@@ -1,14 +1,14 @@
 //! What is read of parameters.
-ghost use Rattle.std.specs.Prelude.{◌≡◌, ◌<◌, IfOk, is_some};
+ghost use Rattle.std.specs.Prelude.{◌≡◌, ◌<◌, IfOk};
 ghost use Rattle.pf_catalogue.specs.Catalogue.{catalogue, row_at};
+ghost use Rattle.pf_catalogue.specs.Clauses.RowsMeant.{row_meant};
+ghost use Rattle.pf_params.specs.Clauses.Readings as turns;
 ghost use Rattle.pf_params.specs.Parameters as spec;
 
 use crate::known::Known;
 use crate::refusals::{bad_value, cause_of, line_of, refusal_of};
-use pf_base::{Bytes, Cause, List, NoMemory, Refused};
-use pf_catalogue::{
-    Kind, PARAMS, Param, Preset, Value, kind_of, param_at, param_name, preset_of, value_of,
-};
+use pf_base::{Bytes, Cause, List, Meaning, NoMemory, Refused};
+use pf_catalogue::{Kind, PARAMS, Param, Row, Value, param_at, param_row, value_of};
 use std::alloc::Global;
 
 /// What is read of a parameter: the line of its last setting, from 1, 0 where it stands in no file or is not set; its text
@@ -32,14 +32,14 @@ fn may_stand(kind: Kind, is_set: bool) -> bool
 }
 
 // The text of a parameter: that of its last setting, or its default, which is its value where it is taken out of another one.
-fn raw_text(alloc: Global, known: &Known, p: Param, value: &Bytes) -> Result<Bytes, NoMemory>
-    ensures { IfOk result (λ raw. raw ≡ spec.raw_text known.now (row_at p) value.now) }
+fn raw_text(alloc: Global, known: &Known, row: Row<'_>, value: &Bytes) -> Result<Bytes, NoMemory>
+    ensures { IfOk result (λ raw. raw ≡ spec.raw_text known.now (row_meant row.entry) value.now) }
 {
-    match known.last(param_name(p)) {
+    match known.last(row.0) {
         Some(setting) => setting.value.copy(alloc),
-        None => match preset_of(p) {
-            Preset::Is(text) => Bytes::from_slice(alloc, text),
-            Preset::DomainOf(_) => value.copy(alloc),
+        None => match row.2 {
+            Meaning::Is(text) => Bytes::from_slice(alloc, text),
+            Meaning::DomainOf(_) => value.copy(alloc),
         },
     }
 }
@@ -48,38 +48,37 @@ fn raw_text(alloc: Global, known: &Known, p: Param, value: &Bytes) -> Result<Byt
 fn reading_with(
     alloc: Global,
     known: &Known,
-    p: Param,
+    row: Row<'_>,
     text: Bytes,
 ) -> Result<Result<Reading, Cause>, NoMemory>
-    ensures { IfOk result (λ reading. reading ≡ spec.reading_with known.now (row_at p) text) }
+    ensures { IfOk result (λ reading. reading ≡ spec.reading_with known.now (row_meant row.entry) text) }
 {
-    let kind = kind_of(p);
-    let Some(value) = value_of(alloc, kind, text.as_slice())? else {
-        return Ok(Err(bad_value(kind)));
+    let Some(value) = value_of(alloc, row.1, text.as_slice())? else {
+        return Ok(Err(bad_value(row.1)));
     };
-    if !may_stand(kind, known.last(param_name(p)).is_some()) {
+    if !may_stand(row.1, known.is_set(row.0)) {
         return Ok(Err(Cause::C14));
     }
-    let raw = raw_text(alloc, known, p, &text)?;
+    let raw = raw_text(alloc, known, row, &text)?;
     Ok(Ok(Reading {
-        line: line_of(known, param_name(p)),
+        line: line_of(known, row.0),
         raw,
         text,
         value,
     }))
 }
 
-/// What is read of a parameter, or the cause of its refusal.
+/// What is read of a parameter or a class, or the cause of its refusal.
 pub(crate) fn reading_of(
     alloc: Global,
     known: &Known,
-    p: Param,
+    row: Row<'_>,
 ) -> Result<Result<Reading, Cause>, NoMemory>
-    ensures { IfOk result (λ reading. reading ≡ spec.reading_of known.now (row_at p)) }
+    ensures { IfOk result (λ reading. reading ≡ spec.reading_of known.now (row_meant row.entry)) }
 {
-    match known.name_value(alloc, param_name(p))? {
+    match known.name_value(alloc, row.0)? {
         Err(flaw) => Ok(Err(cause_of(flaw))),
-        Ok(text) => reading_with(alloc, known, p, text),
+        Ok(text) => reading_with(alloc, known, row, text),
     }
 }
 
@@ -90,7 +89,7 @@ impl Known {
     pub fn reading(&self, alloc: Global, p: Param) -> Result<Result<Reading, Cause>, NoMemory>
         ensures { IfOk result (λ reading. reading ≡ spec.reading_of self.now (row_at p)) }
     {
-        reading_of(alloc, self, p)
+        reading_of(alloc, self, param_row(p))
     }
 
     /// The refusal of a name's setting, with the line of the last one, 0 where it stands in no file or is not set.
@@ -106,14 +105,14 @@ pub(crate) fn readings_of(
     alloc: Global,
     known: &Known,
 ) -> Result<Result<List<Reading>, Refused>, NoMemory>
-    ensures { IfOk result (λ readings. readings ≡ spec.readings_of known.now catalogue) }
+    ensures { IfOk result (λ readings. readings ≡ turns.readings_of known.now catalogue) }
 {
     let mut readings = List::new(alloc);
     for place in 0..PARAMS {
-        let p = param_at(place);
-        match reading_of(alloc, known, p)? {
+        let row = param_row(param_at(place));
+        match reading_of(alloc, known, row)? {
             Ok(reading) => readings.push(reading)?,
-            Err(cause) => return Ok(Err(refusal_of(alloc, known, param_name(p), cause)?)),
+            Err(cause) => return Ok(Err(refusal_of(alloc, known, row.0, cause)?)),
         }
     }
     Ok(Ok(readings))

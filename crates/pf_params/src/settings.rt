@@ -1,6 +1,7 @@
 //! The settings of a main.cf, with their values.
 ghost use Rattle.std.specs.Prelude.{◌≡◌, Some, true, IfOk, is_some};
 ghost use Rattle.std.specs.Option.{option_copied, option_map};
+ghost use Rattle.std.specs.Result.{result_err};
 ghost use Rattle.pf_base.specs.Clauses.Unless.{Unless};
 ghost use Rattle.pf_catalogue.specs.Catalogue.{row_at};
 ghost use Rattle.pf_catalogue.specs.Values.{IsNumberOf, are_items};
@@ -8,6 +9,7 @@ ghost use Rattle.pf_catalogue.specs.declared.kind.Kind.TheVariants as kind;
 ghost use Rattle.pf_catalogue.specs.declared.value.Value.TheVariants as value;
 ghost use Rattle.pf_maincf.specs.Clauses.Faults.{as_fault};
 ghost use Rattle.pf_params.specs.Accepted as spec;
+ghost use Rattle.pf_params.specs.Clauses.Readings as turns;
 ghost use Rattle.pf_params.specs.Parameters as parameters;
 ghost use Rattle.pf_params.specs.Settled as settled;
 
@@ -34,7 +36,7 @@ impl Model for Settings {
     ghost use Rattle.std.specs.Prelude.{◌≡◌, Ok};
     ghost use Rattle.pf_catalogue.specs.Catalogue.{catalogue};
     ghost use Rattle.pf_params.specs.Accepted.{classes_in};
-    ghost use Rattle.pf_params.specs.Parameters.{readings_of};
+    ghost use Rattle.pf_params.specs.Clauses.Readings.{readings_of};
     ghost use Rattle.pf_params.specs.Settled.{Settled};
 
     ghost Value = { Settled };
@@ -49,8 +51,8 @@ fn parted(
     alloc: Global,
     readings: Result<List<Reading>, Refused>,
 ) -> (List<Reading>, Option<Refused>)
-    ensures held { result.0 ≡ spec.held_readings readings }
-    ensures refusal { result.1 ≡ spec.refused_reading readings }
+    ensures held { result.0 ≡ turns.held_readings readings }
+    ensures refusal { result.1 ≡ result_err readings }
 {
     match readings {
         Ok(readings) => (readings, None),

@@ -1,13 +1,14 @@
 //! The names of settings with what they stand for.
 ghost use Rattle.std.specs.Prelude.{◌≡◌, ℕ, List as Seq, [], OnOk};
+ghost use Rattle.pf_base.specs.Meanings.{Source};
+ghost use Rattle.pf_base.specs.declared.meaning.Meaning.TheVariants.{Is};
 ghost use Rattle.pf_catalogue.specs.Catalogue.{row_at};
 ghost use Rattle.pf_expand.specs.Clauses.Meanings.{AreNames};
-ghost use Rattle.pf_expand.specs.Names.{Source, with_source};
-ghost use Rattle.pf_params.specs.Presets as presets;
-ghost use Rattle.pf_params.specs.Sources.{source_of};
+ghost use Rattle.pf_expand.specs.Names.{with_source};
+ghost use Rattle.pf_params.specs.Sources.{preset_of, source_of};
 
-use pf_base::NoMemory;
-use pf_catalogue::{PARAMS, Param, Preset, param_at, param_name, preset_of};
+use pf_base::{Meaning, NoMemory};
+use pf_catalogue::{PARAMS, Param, param_at, param_row};
 use pf_expand::Names;
 use pf_maincf::Setting;
 use std::alloc::Global;
@@ -15,17 +16,15 @@ use std::alloc::Global;
 // Lets the name of a parameter stand for its default.
 fn set_preset(alloc: Global, names: &mut Names, p: Param) -> Result<(), NoMemory>
     ensures { OnOk result ((sources : Seq ℕ → Source) → AreNames names.old sources
-        → AreNames names.new (with_source sources (row_at p).name (presets.preset_source (row_at p).preset))) }
+        → AreNames names.new (with_source sources (row_at p).name (row_at p).preset)) }
 {
-    match preset_of(p) {
-        Preset::Is(text) => names.set_text(alloc, param_name(p), text),
-        Preset::DomainOf(host) => names.set_domain(alloc, param_name(p), host),
-    }
+    let row = param_row(p);
+    names.set(alloc, row.0, row.2)
 }
 
 /// Lets the names of parameters, where none stands for anything, stand for their defaults.
 pub(crate) fn set_presets(alloc: Global, names: &mut Names) -> Result<(), NoMemory>
-    ensures { OnOk result (AreNames names.old (λ name. Source.text []) → AreNames names.new presets.preset_of) }
+    ensures { OnOk result (AreNames names.old (λ name. Is []) → AreNames names.new preset_of) }
 {
     let mut left = PARAMS;
     while left > 0 {
@@ -45,7 +44,11 @@ pub(crate) fn set_names(
     ensures { OnOk result ((presets : Seq ℕ → Source) → AreNames names.old presets → AreNames names.new (source_of presets settings.now)) }
 {
     for setting in settings {
-        names.set_text(alloc, setting.name.as_slice(), setting.value.as_slice())?;
+        names.set(
+            alloc,
+            setting.name.as_slice(),
+            Meaning::Is(setting.value.as_slice()),
+        )?;
     }
     Ok(())
 }

@@ -3,13 +3,13 @@ use Rattle.std.proofs.Common.{◌≡◌, ℕ, Bool, true, false, nat_lt, List, O
 use Rattle.std.proofs.lemmas.Str.{IsUtf8-from_is_utf8, is_utf8-from_IsUtf8}
 use Rattle.std.specs.Str.{IsUtf8, is_utf8}
 use Rattle.pf_base.specs.FileList.{file_limit, file_of, whole_file}
+use Rattle.pf_base.specs.Results.{◌>>=◌}
 use Rattle.pf_base.specs.declared.pair.Pair.{Pair}
 use Rattle.pf_base.specs.declared.reading.ReadFault.{ReadFault}
 use Rattle.pf_base.specs.declared.reading.ReadFault.TheVariants.{TooLarge}
 use Rattle.pf_base.specs.declared.refused.Cause.TheVariants.{C10, C15}
 use Rattle.pf_base.specs.declared.refused.Refused.{Refused}
 use Rattle.pf_tools.specs.Course.{bytes_in}
-use Rattle.pf_tools.specs.Printed.{◌>>=◌}
 use Rattle.pf_tools.specs.Clauses.Reports.{Answers}
 use Rattle.pf_tools.specs.Said.{conf_text, file_refused}
 use Rattle.pf_tools.specs.declared.file.FileFault.{FileFault}

@@ -1,9 +1,10 @@
 -- The lines of names, one after the other.
 use Rattle.std.proofs.Common.{◌≡◌, ℕ, ◌+◌, ◌<◌, ◌++◌, drop, length, get_or, List, ◌∷◌, Ok, Err, Result, sym, ap, refl, ◌∙◌, append_assoc}
 use Rattle.std.proofs.lemmas.List.{drop_more}
+use Rattle.pf_base.specs.Results.{◌>>=◌}
 use Rattle.pf_base.specs.declared.refused.Refused.{Refused}
 use Rattle.pf_params.specs.Settled.{Settled}
-use Rattle.pf_tools.specs.Printed.{line_of, lines_of, ◌>>=◌}
+use Rattle.pf_tools.specs.Printed.{line_of, lines_of}
 use Rattle.pf_words.specs.declared.postconf.ConfWords.{ConfWords}
 
 -- behind a line that is there

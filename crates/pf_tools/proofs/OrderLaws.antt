@@ -1,18 +1,26 @@
--- Where a name is put.
+-- Where a name is put, and that there is just one list of the names in order.
 use Rattle.std.proofs.Common.{◌≡◌, ℕ, ◌+◌, ◌<◌, ◌≤◌, List, [], ◌∷◌, ◌++◌, take, drop, get_or, length, sym, ap, ◌∙◌, map, arith}
 use Rattle.std.proofs.lemmas.List.{drop_more, map-append, take_all, take_more}
 use Rattle.std.proofs.lemmas.List.Sums.{fold-append}
-use Rattle.std.specs.Cmp.Lexicographic.{slice_cmp}
+use Rattle.std.proofs.Math.Path.{fun_ext}
+use Rattle.std.proofs.lemmas.Map.Lookups.{btree_set_from_contains, exact_bytes}
+use Rattle.std.proofs.lemmas.Map.Text.{is_eq-slice_cmp}
+use Rattle.std.specs.Cmp.Lexicographic.{nat_list_cmp_total, slice_cmp}
 use Rattle.std.specs.List.{fold}
-use Rattle.std.specs.Ordering.{nat_cmp}
+use Rattle.std.specs.List.{list_any}
+use Rattle.std.specs.Ordering.{is_eq, match_ordering, nat_cmp}
+use Rattle.std.specs.Str.{bytes_eq}
 use Rattle.std.specs.declared.cmp.Ordering.{Ordering}
 use Rattle.std.specs.declared.cmp.Ordering.TheVariants.{Equal}
-use Rattle.pf_catalogue.specs.Catalogue.{Preset as preset}
+use Rattle.pf_base.specs.declared.meaning.Meaning.TheVariants.{Is}
 use Rattle.pf_catalogue.specs.Catalogue.{Row, catalogue, row, row_at}
 use Rattle.pf_catalogue.specs.declared.kind.Kind.TheVariants.{Text}
 use Rattle.pf_params.proofs.CatalogueLaws.{count}
-use Rattle.pf_tools.specs.Asked.{parameter_names}
-use Rattle.pf_tools.specs.Order.{by_order, with_name}
+use Rattle.pf_params.specs.Settled.{Settled}
+use Rattle.pf_tools.specs.Asked.{asked_names, names_of, names_or, parameter_names, shown_names}
+use Rattle.pf_tools.specs.Clauses.Ordering.{put_in_order, with_name}
+use Rattle.pf_tools.specs.Order.{IsInOrder, has}
+use Rattle.pf_words.specs.declared.postconf.ConfWords.{ConfWords}
 
 -- the name goes behind the first i
 abbrev pub GoesBehind : List (List ℕ) → ℕ → List ℕ → Type 0
@@ -22,14 +30,14 @@ module _ (names : List (List ℕ)) (i : ℕ) (name other : List ℕ) (within : i
   here : drop i names ≡ other ∷ drop (i + 1) names
   here = drop_more names i other within ∙ ap (λ x. x ∷ drop (i + 1) names) (sym at)
 
-  by_how : (how : Ordering) → slice_cmp nat_cmp other name ≡ how
-      → with_name (drop i names) name ≡ by_order how (other ∷ with_name (drop (i + 1) names) name) (drop i names) (name ∷ drop i names)
+  by_how : (how : Ordering) → slice_cmp nat_cmp name other ≡ how
+      → with_name (drop i names) name ≡ match_ordering how (name ∷ drop i names) (drop i names) (other ∷ with_name (drop (i + 1) names) name)
   by_how how is =
       ap (λ rest. with_name rest name) here
-      ∙ ap (λ h. by_order h (other ∷ with_name (drop (i + 1) names) name) (other ∷ drop (i + 1) names) (name ∷ other ∷ drop (i + 1) names)) is
-      ∙ ap (λ rest. by_order how (other ∷ with_name (drop (i + 1) names) name) rest (name ∷ rest)) (sym here)
+      ∙ ap (λ h. match_ordering h (name ∷ other ∷ drop (i + 1) names) (other ∷ drop (i + 1) names) (other ∷ with_name (drop (i + 1) names) name)) is
+      ∙ ap (λ rest. match_ordering how (name ∷ rest) rest (other ∷ with_name (drop (i + 1) names) name)) (sym here)
 
-  pub is_there : GoesBehind names i name → slice_cmp nat_cmp other name ≡ Equal → with_name names name ≡ take i names ++ drop i names
+  pub is_there : GoesBehind names i name → slice_cmp nat_cmp name other ≡ Equal → with_name names name ≡ take i names ++ drop i names
   is_there behind is = behind ∙ ap (λ rest. take i names ++ rest) (by_how Equal is)
 
 -- the names of two lists
@@ -46,10 +54,26 @@ pub parameters_more : (old names new : List (List ℕ)) (place : ℕ) → place 
     → HasParameters old new (place + 1)
 parameters_more old names new place within so_far is =
     both_lists old names new (map (λ (r : Row). r.name) (take place catalogue)) ((row_at place).name ∷ []) _ so_far is (
-    ap (map (λ (r : Row). r.name)) (take_more catalogue place (row [] Text (preset.text [])) (omega (arith, count)))
+    ap (map (λ (r : Row). r.name)) (take_more catalogue place (row [] Text (Is [])) (omega (arith, count)))
     ∙ map-append (λ (r : Row). r.name) (take place catalogue) (row_at place ∷ [])
     )
 
 pub parameters_all : (old names : List (List ℕ)) (place : ℕ) → 77 ≤ place → HasParameters old names place → names ≡ fold with_name old parameter_names
 parameters_all old names place past so_far =
     so_far ∙ ap (λ (rows : List Row). fold with_name old (map (λ (r : Row). r.name) rows)) (take_all place catalogue (omega (arith, count)))
+
+-- there is just one list of the names in order
+pub only_one : (names first second : List (List ℕ)) → IsInOrder names first → IsInOrder names second → first ≡ second
+only_one names first second a b =
+    btree_set_from_contains nat_list_cmp_total (record { keys = first }) (record { keys = second }) a.ascends b.ascends
+    (λ name. by_order name first ∙ a.same name ∙ sym (b.same name) ∙ sym (by_order name second)) exact_bytes
+  where
+    by_order : (name : List ℕ) (xs : List (List ℕ)) → list_any (λ other. is_eq (slice_cmp nat_cmp name other)) xs ≡ has xs name
+    by_order name xs = ap (λ test. list_any test xs) (fun_ext (λ other. is_eq-slice_cmp name other))
+
+-- which are all that are asked for, where the words name none
+pub all_asked : (words : ConfWords) (s : Settled) (names : List (List ℕ)) → length words.rest < 1 → IsInOrder (names_of words.mode s) names → names ≡ asked_names words s
+all_asked words s names none order = by_rest words.rest none where
+  by_rest : (rest : List (List ℕ)) → length rest < 1 → names ≡ names_or rest (shown_names words.mode s)
+  by_rest [] h = only_one (names_of words.mode s) names (shown_names words.mode s) order (put_in_order (names_of words.mode s))
+  by_rest (name ∷ rest) h = absurd (omega (arith, h))

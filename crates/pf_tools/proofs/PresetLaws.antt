@@ -8,11 +8,11 @@ use Rattle.std.proofs.lemmas.Slice.Eq.{bytes_eq-Decides}
 use Rattle.std.specs.List.{find, list_all, position, position_or_len, slice_get}
 use Rattle.std.specs.Option.{option_map_or}
 use Rattle.std.specs.Str.{bytes_eq}
-use Rattle.pf_catalogue.specs.Catalogue.{Preset, Row, catalogue, place_of, row, row_at}
-use Rattle.pf_catalogue.specs.Catalogue.{Preset as preset}
+use Rattle.pf_base.specs.Meanings.{Source}
+use Rattle.pf_base.specs.declared.meaning.Meaning.TheVariants.{Is, DomainOf}
+use Rattle.pf_catalogue.specs.Catalogue.{Row, catalogue, place_of, row, row_at}
 use Rattle.pf_catalogue.specs.declared.kind.Kind.TheVariants.{Text}
-use Rattle.pf_expand.specs.Names.{Source as source}
-use Rattle.pf_params.specs.Presets.{preset_of, preset_source}
+use Rattle.pf_params.specs.Sources.{preset_of}
 
 -- an element by its place
 past : {X : Type 0} (xs : List X) (n : ℕ) → length xs ≤ n → slice_get xs n ≡ None
@@ -32,20 +32,20 @@ some_there p xs i d e =
     ∙ slice_get-get_or xs i d (position-Some p xs i d (sym e)).0
 
 -- a name of the catalogue stands for the default of its parameter, and another one for nothing
-pub preset_there : (name : List ℕ) (place : ℕ) → Some place ≡ place_of name → preset_of name ≡ preset_source (row_at place).preset
+pub preset_there : (name : List ℕ) (place : ℕ) → Some place ≡ place_of name → preset_of name ≡ (row_at place).preset
 preset_there name place at =
-    ap (λ (o : Option Row). option_map_or (λ (r : Row). preset_source r.preset) o (source.text []))
-    (some_there (λ (r : Row). bytes_eq r.name name) catalogue place (row [] Text (preset.text [])) at)
+    ap (λ (o : Option Row). option_map_or (λ (r : Row). r.preset) o (Is []))
+    (some_there (λ (r : Row). bytes_eq r.name name) catalogue place (row [] Text (Is [])) at)
 
-pub no_preset : (name : List ℕ) → None ≡ place_of name → preset_of name ≡ source.text []
+pub no_preset : (name : List ℕ) → None ≡ place_of name → preset_of name ≡ Is []
 no_preset name none =
-    ap (λ (o : Option Row). option_map_or (λ (r : Row). preset_source r.preset) o (source.text []))
+    ap (λ (o : Option Row). option_map_or (λ (r : Row). r.preset) o (Is []))
     (none_there (λ (r : Row). bytes_eq r.name name) catalogue none)
 
 -- a default that is no text is the domain in the value of myhostname
-abbrev is_host : Preset → Bool
-is_host (preset.text bytes) = true
-is_host (preset.domain_of name) = bytes_eq name (codes "myhostname")
+abbrev is_host : Source → Bool
+is_host (Is bytes) = true
+is_host (DomainOf name) = bytes_eq name (codes "myhostname")
 
 all_hosts : list_all (λ (r : Row). is_host r.preset) catalogue ≡ true
 unfolding catalogue
@@ -58,6 +58,6 @@ host_at (r ∷ rows) zero d all none = (and_parts (is_host r.preset) (list_all (
 host_at (r ∷ rows) (suc place) d all none =
     host_at rows place d (and_parts (is_host r.preset) (list_all (λ (r : Row). is_host r.preset) rows) all).1 none
 
-pub host_is : (place : ℕ) (name : List ℕ) → preset.domain_of name ≡ (row_at place).preset → name ≡ codes "myhostname"
+pub host_is : (place : ℕ) (name : List ℕ) → DomainOf name ≡ (row_at place).preset → name ≡ codes "myhostname"
 host_is place name is =
-    (bytes_eq-Decides name (codes "myhostname")).0 (ap is_host is ∙ host_at catalogue place (row [] Text (preset.text [])) all_hosts refl)
+    (bytes_eq-Decides name (codes "myhostname")).0 (ap is_host is ∙ host_at catalogue place (row [] Text (Is [])) all_hosts refl)

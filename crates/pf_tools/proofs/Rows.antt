@@ -2,6 +2,7 @@
 use Rattle.std.proofs.Common.{◌≡◌, ℕ, true, false, List, [], ◌∷◌, map, length, None, Some, Ok, Err, refl, codes}
 use Rattle.std.specs.Fmt.{digits}
 use Rattle.std.specs.Str.{chars, is_utf8}
+use Rattle.pf_base.specs.Lines.{lines, rest}
 use Rattle.pf_base.specs.Printing.{printed_line}
 use Rattle.pf_base.specs.Refusal.{cause_text, refusal_line}
 use Rattle.pf_base.specs.Words.{words_of}
@@ -20,7 +21,7 @@ use Rattle.pf_params.specs.Settled.{Settled}
 use Rattle.pf_tools.specs.Asked.{asked_names, is_known, is_shown, shown_names}
 use Rattle.pf_tools.specs.Course.{Course, bytes_in, conf_name, course_status, log_of, output_of}
 use Rattle.pf_tools.specs.Course.{Course as course}
-use Rattle.pf_tools.specs.Order.{in_order}
+use Rattle.pf_tools.specs.Clauses.Ordering.{in_order}
 use Rattle.pf_tools.specs.Printed.{line_text, lines_of}
 use Rattle.pf_tools.specs.Run.{statuses_by}
 use Rattle.pf_tools.specs.Said.{edited_by, file_said, printed, printed_of}
@@ -46,7 +47,7 @@ site = record {
 }
 
 -- names in order
-order : map in_order ((codes "b" ∷ codes "a" ∷ codes "b" ∷ codes "ab" ∷ []) ∷ (codes "B" ∷ codes "a" ∷ [] ∷ codes "_" ∷ []) ∷ [])
+order : map (λ names. (in_order names).list) ((codes "b" ∷ codes "a" ∷ codes "b" ∷ codes "ab" ∷ []) ∷ (codes "B" ∷ codes "a" ∷ [] ∷ codes "_" ∷ []) ∷ [])
     ≡ (codes "a" ∷ codes "ab" ∷ codes "b" ∷ []) ∷ ([] ∷ codes "B" ∷ codes "_" ∷ codes "a" ∷ []) ∷ []
 order = refl
 
@@ -141,7 +142,7 @@ absent = refl
 
 edited_text : file_said file (record words { mode = mode.Edit; rest = codes "a=2" ∷ codes "c=" ∷ [] }) (Some (codes "a = 1\nb = 1"))
     ≡ Ok (Edited (codes "a = 2\nb = 1\nc = \n"))
-unfolding edited_by edited conf_of settings_of_words setting_of_word
+unfolding edited_by edited conf_of lines rest settings_of_words setting_of_word
 edited_text = refl
 
 -- the file of the words

@@ -1,5 +1,5 @@
 -- The last settings of names in a main.cf and behind it.
-use Rattle.std.proofs.Common.{◌≡◌, ℕ, ◌++◌, Bool, true, false, List, [], ◌∷◌, map, Option, None, Some, Ok, Result, cond, refl, sym, ap, ◌∙◌}
+use Rattle.std.proofs.Common.{◌≡◌, ℕ, ◌++◌, Bool, true, false, List, [], ◌∷◌, map, Option, None, Some, Ok, Err, Result, cond, refl, sym, ap, ◌∙◌}
 use Rattle.std.proofs.lemmas.List.{map-append}
 use Rattle.std.specs.Borrow.{Bor}
 use Rattle.std.specs.Option.{option_copied, option_map, option_map_or, option_or}
@@ -10,7 +10,7 @@ use Rattle.pf_maincf.proofs.LastSettings.{last_append}
 use Rattle.pf_maincf.specs.Clauses.Faults.{as_fault}
 use Rattle.pf_maincf.specs.Settings.{Conf, last_setting}
 use Rattle.pf_maincf.specs.declared.setting.Setting.{Setting}
-use Rattle.pf_params.specs.Accepted.{accepted, refusal_in, unless_refused}
+use Rattle.pf_params.specs.Accepted.{accepted, refusal_in}
 use Rattle.pf_params.specs.Parameters.{line_of}
 use Rattle.pf_params.specs.Settled.{Settled, line_if, settled}
 use Rattle.pf_tools.specs.Asked.{set_names}
@@ -85,7 +85,7 @@ module _ (s : Settled) (conf : Conf) (over : List Setting) (name : List ℕ) (is
 pub accepted_all : (conf : Conf) (over : List Setting) (s : Settled) → Ok s ≡ as_fault (accepted conf over) → s ≡ settled conf over
 unfolding accepted
 accepted_all conf over s is = by_refusal (refusal_in (settled conf over)) is where
-  by_refusal : (o : Option Refused) → ◌≡◌ {A = Result Settled ConfFault} (Ok s) (as_fault (unless_refused (settled conf over) o)) → s ≡ settled conf over
+  by_refusal : (o : Option Refused) → ◌≡◌ {A = Result Settled ConfFault} (Ok s) (as_fault (option_map_or Err o (Ok (settled conf over)))) → s ≡ settled conf over
   by_refusal None is = cc
   by_refusal (Some refusal) is = cc
 

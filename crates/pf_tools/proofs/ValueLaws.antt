@@ -6,8 +6,9 @@ use Rattle.std.specs.List.{position}
 use Rattle.pf_base.specs.declared.refused.ConfFault.{ConfFault}
 use Rattle.pf_expand.specs.Expansion.{Answer, Text, joined, length_limit, parts, parts_of, text_value, value_of, value_or_bad, within_limit}
 use Rattle.pf_expand.specs.Forms.{first_part, form_of}
-use Rattle.pf_expand.specs.Names.{Source, depth_limit, domain_in, domain_of, name_value, past_dot, source_value}
-use Rattle.pf_expand.specs.Names.{Source as source}
+use Rattle.pf_base.specs.Meanings.{Source}
+use Rattle.pf_base.specs.declared.meaning.Meaning.TheVariants.{Is, DomainOf}
+use Rattle.pf_expand.specs.Names.{depth_limit, domain_in, domain_of, name_value, past_dot, source_value}
 use Rattle.pf_maincf.specs.Clauses.Faults.{as_fault}
 use Rattle.pf_params.specs.Settled as settled
 use Rattle.pf_params.specs.Settled.{Settled, or_refused, settled_source}
@@ -55,8 +56,8 @@ limited sources (suc n) name = by_source (sources name) (limited sources n) wher
 
   by_source : (s : Source) → ((host : List ℕ) → within_limit (name_value sources n host) ≡ name_value sources n host)
       → within_limit (source_value (name_value sources n) s) ≡ source_value (name_value sources n) s
-  by_source (source.text bytes) hosts = by_text (name_value sources n) (parts_of bytes)
-  by_source (source.domain host) hosts = domain_limited (name_value sources n host) (hosts host)
+  by_source (Is bytes) hosts = by_text (name_value sources n) (parts_of bytes)
+  by_source (DomainOf host) hosts = domain_limited (name_value sources n host) (hosts host)
 
 -- the value of a text that is one name
 alone : (x : Answer) → joined x (Ok []) ≡ x
@@ -77,13 +78,13 @@ module _ (s : Settled) (host : List ℕ) (is : host ≡ codes "myhostname") wher
       )
 
   -- the domain in the value of the name, or the refusal of that value
-  pub domain_there : (value : List ℕ) → Ok value ≡ as_fault (settled.value_in s (36 ∷ host)) → Ok (domain_in value) ≡ as_fault (or_refused s.file (value_in s (source.domain host)))
+  pub domain_there : (value : List ℕ) → Ok value ≡ as_fault (settled.value_in s (36 ∷ host)) → Ok (domain_in value) ≡ as_fault (or_refused s.file (value_in s (DomainOf host)))
   domain_there value there = by_value (name_value (settled_source s) depth_limit host) (there ∙ ap as_fault host_value) where
     by_value : (x : Answer) → Ok value ≡ as_fault (or_refused s.file x) → ◌≡◌ {A = Result (List ℕ) ConfFault} (Ok (domain_in value)) (as_fault (or_refused s.file (domain_of x)))
     by_value (Ok bytes) e = let same : value ≡ bytes = cc in ap (λ x. Ok (domain_in x)) same
     by_value (Err flaw) e = cc
 
-  pub domain_refused : (fault : ConfFault) → Err fault ≡ as_fault (settled.value_in s (36 ∷ host)) → Err fault ≡ as_fault (or_refused s.file (value_in s (source.domain host)))
+  pub domain_refused : (fault : ConfFault) → Err fault ≡ as_fault (settled.value_in s (36 ∷ host)) → Err fault ≡ as_fault (or_refused s.file (value_in s (DomainOf host)))
   domain_refused fault there = by_value (name_value (settled_source s) depth_limit host) (there ∙ ap as_fault host_value) where
     by_value : (x : Answer) → Err fault ≡ as_fault (or_refused s.file x) → ◌≡◌ {A = Result (List ℕ) ConfFault} (Err fault) (as_fault (or_refused s.file (domain_of x)))
     by_value (Ok bytes) e = cc

@@ -1,9 +1,9 @@
 -- Which names are asked for, and which of them are known and are shown (postconf(1)).
 use Rattle.std.specs.Prelude.{ℕ, ◌++◌, ◌||◌, Bool, false, List, [], ◌∷◌, map, is_some}
 use Rattle.pf_catalogue.specs.Catalogue.{catalogue, place_of}
-use Rattle.pf_maincf.specs.Settings.{last_setting}
+use Rattle.pf_params.specs.Parameters.{is_set}
 use Rattle.pf_params.specs.Settled.{Settled}
-use Rattle.pf_tools.specs.Order.{in_order}
+use Rattle.pf_tools.specs.Clauses.Ordering.{in_order}
 use Rattle.pf_words.specs.declared.postconf.ConfMode.{ConfMode}
 use Rattle.pf_words.specs.declared.postconf.ConfMode.TheVariants as mode
 use Rattle.pf_words.specs.declared.postconf.ConfWords.{ConfWords}
@@ -12,11 +12,7 @@ use Rattle.pf_words.specs.declared.postconf.ConfWords.{ConfWords}
 abbrev pub is_parameter : List ℕ → Bool
 is_parameter name = is_some (place_of name)
 
--- a name that main.cf or -o sets
-abbrev pub is_set : Settled → List ℕ → Bool
-is_set s name = is_some (last_setting s.settings name)
-
--- a name that is one or the other
+-- such a name, or one that main.cf or -o sets
 abbrev pub is_known : Settled → List ℕ → Bool
 is_known s name = is_parameter name || is_set s name
 
@@ -34,12 +30,16 @@ parameter_names = map (λ row. row.name) catalogue
 abbrev pub set_names : Settled → List (List ℕ)
 set_names s = map (λ setting. setting.name) s.settings
 
+-- the names of which all that there are are shown
+abbrev pub names_of : ConfMode → Settled → List (List ℕ)
+names_of mode.All s = parameter_names ++ set_names s
+names_of mode.Set s = set_names s
+names_of mode.Defaults s = parameter_names
+names_of mode.Edit s = []
+
 -- the names that are shown, in byte order
 abbrev pub shown_names : ConfMode → Settled → List (List ℕ)
-shown_names mode.All s = in_order (parameter_names ++ set_names s)
-shown_names mode.Set s = in_order (set_names s)
-shown_names mode.Defaults s = in_order parameter_names
-shown_names mode.Edit s = []
+shown_names mode s = (in_order (names_of mode s)).list
 
 -- the names that the words have, or else others
 abbrev pub names_or : List (List ℕ) → List (List ℕ) → List (List ℕ)

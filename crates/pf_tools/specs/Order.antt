@@ -1,23 +1,21 @@
 -- Names in the order of their bytes, each once. By no standard.
-use Rattle.std.specs.Prelude.{ℕ, List, [], ◌∷◌}
+use Rattle.std.specs.Prelude.{◌≡◌, ℕ, Bool, List}
 use Rattle.std.specs.Cmp.Lexicographic.{slice_cmp}
-use Rattle.std.specs.List.{fold}
+use Rattle.std.specs.List.{list_any}
+use Rattle.std.specs.List.Sorted.{IsStrictlySortedBy}
 use Rattle.std.specs.Ordering.{nat_cmp}
-use Rattle.std.specs.declared.cmp.Ordering.{Ordering}
-use Rattle.std.specs.declared.cmp.Ordering.TheVariants.{Less, Equal, Greater}
+use Rattle.std.specs.Str.{bytes_eq}
 
--- one of three, by how one name stands to another
-abbrev pub by_order : {A : Type 0} → Ordering → A → A → A → A
-by_order Less less equal greater = less
-by_order Equal less equal greater = equal
-by_order Greater less equal greater = greater
+-- a name is one of these
+abbrev pub has : List (List ℕ) → List ℕ → Bool
+has names name = list_any (bytes_eq name) names
 
--- names with one more before the first that is greater; one that is there comes no second time
-abbrev pub with_name : List (List ℕ) → List ℕ → List (List ℕ)
-with_name [] name = name ∷ []
-with_name (first ∷ names) name =
-    by_order (slice_cmp nat_cmp first name) (first ∷ with_name names name) (first ∷ names) (name ∷ first ∷ names)
+-- they ascend strictly, and are the same names
+pub record IsInOrder (names ordered : List (List ℕ)) : Type 0 where
+  pub ascends : IsStrictlySortedBy (slice_cmp nat_cmp) ordered
+  pub same : (name : List ℕ) → has ordered name ≡ has names name
 
--- all of these names
-abbrev pub in_order : List (List ℕ) → List (List ℕ)
-in_order names = fold with_name [] names
+-- the names in order: there is just one such list
+pub record InOrder (names : List (List ℕ)) : Type 0 where
+  pub list : List (List ℕ)
+  pub is : IsInOrder names list

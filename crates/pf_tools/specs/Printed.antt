@@ -1,8 +1,9 @@
 -- What postconf prints and what it warns of (postconf(1)). How a warning is printed is postgate's own.
-use Rattle.std.specs.Prelude.{ℕ, ◌++◌, List, [], ◌∷◌, Result, Ok, Err, codes, if◌then◌else◌}
+use Rattle.std.specs.Prelude.{ℕ, ◌++◌, List, [], ◌∷◌, Result, Ok, codes, if◌then◌else◌}
 use Rattle.std.specs.List.{flat_map}
 use Rattle.pf_base.specs.Ascii as ascii
 use Rattle.pf_base.specs.Printing.{printed_line}
+use Rattle.pf_base.specs.Results.{◌>>=◌}
 use Rattle.pf_base.specs.declared.refused.Refused.{Refused}
 use Rattle.pf_params.specs.Settled.{Settled}
 use Rattle.pf_tools.specs.Asked.{is_known, is_shown}
@@ -10,12 +11,6 @@ use Rattle.pf_tools.specs.Values.{value_shown}
 use Rattle.pf_words.specs.declared.postconf.ConfWords.{ConfWords}
 use Rattle.pf_words.specs.declared.postconf.Shape.{Shape}
 use Rattle.pf_words.specs.declared.postconf.Shape.TheVariants as shape
-
--- one after the other, unless the first is refused
-infixl 10 ◌>>=◌
-abbrev pub ◌>>=◌ : {A B : Type 0} → Result A Refused → (A → Result B Refused) → Result B Refused
-Ok x >>= f = f x
-Err refusal >>= f = Err refusal
 
 -- a value with a blank before it; nothing where it is empty
 abbrev pub behind_sign : List ℕ → List ℕ

@@ -2,6 +2,7 @@
 use Rattle.std.specs.Prelude.{ℕ, Bool, true, false, nat_lt, List, [], Option, None, Some, Result, Ok, Err, length, if◌then◌else◌}
 use Rattle.std.specs.Option.{option_to_list, unwrap_or}
 use Rattle.pf_base.specs.FileList.{file_limit}
+use Rattle.pf_base.specs.Results.{◌>>=◌}
 use Rattle.pf_base.specs.declared.refused.Cause.{Cause}
 use Rattle.pf_base.specs.declared.refused.Cause.TheVariants.{C10, C15}
 use Rattle.pf_base.specs.declared.refused.Refused.{Refused}
@@ -11,7 +12,7 @@ use Rattle.pf_maincf.specs.declared.setting.Setting.{Setting}
 use Rattle.pf_params.specs.Accepted.{accepted}
 use Rattle.pf_params.specs.Settled.{Settled}
 use Rattle.pf_tools.specs.Asked.{asked_names}
-use Rattle.pf_tools.specs.Printed.{lines_of, warnings_of, ◌>>=◌}
+use Rattle.pf_tools.specs.Printed.{lines_of, warnings_of}
 use Rattle.pf_tools.specs.declared.said.Said.{Said}
 use Rattle.pf_tools.specs.declared.said.Said.TheVariants.{Edited, Printed}
 use Rattle.pf_words.specs.Postconf.{is_edit}

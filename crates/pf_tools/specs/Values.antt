@@ -1,12 +1,13 @@
 -- The values that are shown of names (postconf(1)). The causes of refusals are postgate's own.
 use Rattle.std.specs.Prelude.{ℕ, Bool, true, false, List, [], Result, Ok, Err, if◌then◌else◌}
+use Rattle.pf_base.specs.Meanings.{Source}
+use Rattle.pf_base.specs.declared.meaning.Meaning.TheVariants.{Is, DomainOf}
 use Rattle.pf_base.specs.declared.refused.Refused.{Refused}
 use Rattle.pf_expand.specs.Expansion.{Answer}
-use Rattle.pf_expand.specs.Names.{Source, depth_limit, name_value, source_value}
-use Rattle.pf_expand.specs.Names.{Source as source}
+use Rattle.pf_expand.specs.Names.{depth_limit, name_value, source_value}
 use Rattle.pf_params.specs.Parameters.{line_of, refusal_of}
-use Rattle.pf_params.specs.Presets.{preset_of}
 use Rattle.pf_params.specs.Settled.{Settled, cause_of, settled_source}
+use Rattle.pf_params.specs.Sources.{preset_of}
 use Rattle.pf_words.specs.declared.postconf.ConfMode.{ConfMode}
 use Rattle.pf_words.specs.declared.postconf.ConfMode.TheVariants as mode
 use Rattle.pf_words.specs.declared.postconf.ConfWords.{ConfWords}
@@ -24,8 +25,8 @@ value_in s what = source_value (name_value (settled_source s) depth_limit) what
 
 -- what is shown of it: with -x its value, and else its text, where it is one
 abbrev pub shown : Bool → Settled → Source → Answer
-shown expanded s (source.text bytes) = if expanded then value_in s (source.text bytes) else Ok bytes
-shown expanded s (source.domain name) = value_in s (source.domain name)
+shown expanded s (Is bytes) = if expanded then value_in s (Is bytes) else Ok bytes
+shown expanded s (DomainOf name) = value_in s (DomainOf name)
 
 -- the line of the setting that is shown of a name; a default stands in none
 abbrev pub line_in : ConfMode → Settled → List ℕ → ℕ

@@ -9,7 +9,7 @@ ghost use Rattle.pf_params.specs.Accepted.{accepted};
 ghost use Rattle.pf_params.specs.Parameters as parameters;
 ghost use Rattle.pf_params.specs.Settled as settled;
 ghost use Rattle.pf_tools.specs.Asked as asked;
-ghost use Rattle.pf_tools.specs.Order.{with_name};
+ghost use Rattle.pf_tools.specs.Clauses.Ordering.{with_name};
 
 use crate::order::Ordered;
 use pf_base::{Bytes, ConfFault, List, NoMemory};
@@ -87,7 +87,7 @@ impl AllSettings {
 
     /// Whether a name is set.
     pub(crate) fn is_set(&self, name: &[u8]) -> bool
-        ensures { result ≡ asked.is_set self.now name.now }
+        ensures { result ≡ parameters.is_set self.now name.now }
     {
         self.text(name).is_some()
     }

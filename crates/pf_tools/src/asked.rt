@@ -1,8 +1,9 @@
 //! The names that are asked for.
-ghost use Rattle.std.specs.Prelude.{◌≡◌, IfOk, OnOk};
+ghost use Rattle.std.specs.Prelude.{◌≡◌, [], IfOk, OnOk};
 ghost use Rattle.std.specs.List.{fold};
 ghost use Rattle.pf_tools.specs.Asked as spec;
-ghost use Rattle.pf_tools.specs.Order.{with_name};
+ghost use Rattle.pf_tools.specs.Clauses.Ordering.{with_name};
+ghost use Rattle.pf_tools.specs.Order.{IsInOrder};
 
 use crate::all_settings::AllSettings;
 use crate::order::Ordered;
@@ -47,13 +48,9 @@ fn add_parameters(alloc: Global, names: &mut Ordered) -> Result<(), NoMemory>
     Ok(())
 }
 
-/// The names that are shown, in byte order.
-pub(crate) fn shown_names(
-    alloc: Global,
-    mode: ConfMode,
-    all: &AllSettings,
-) -> Result<Ordered, NoMemory>
-    ensures { IfOk result (λ names. names ≡ spec.shown_names mode all.now) }
+// The names that are shown, each put in its place.
+fn names_of(alloc: Global, mode: ConfMode, all: &AllSettings) -> Result<Ordered, NoMemory>
+    ensures { IfOk result (λ names. names ≡ fold with_name [] (spec.names_of mode all.now)) }
 {
     let mut names = Ordered::new(alloc);
     match mode {
@@ -66,4 +63,15 @@ pub(crate) fn shown_names(
         ConfMode::Edit => {}
     }
     Ok(names)
+}
+
+/// The names that are shown, in byte order, each once.
+pub(crate) fn shown_names(
+    alloc: Global,
+    mode: ConfMode,
+    all: &AllSettings,
+) -> Result<Ordered, NoMemory>
+    ensures order { IfOk result (λ names. IsInOrder (spec.names_of mode all.now) names) }
+{
+    names_of(alloc, mode, all)
 }

@@ -1,7 +1,7 @@
 //! Names in the order of their bytes.
 ghost use Rattle.std.specs.Prelude.{◌≡◌, ◌≤◌, [], insert, length, IfSome, OnOk};
 ghost use Rattle.std.specs.Option.{option_map_or};
-ghost use Rattle.pf_tools.specs.Order.{with_name};
+ghost use Rattle.pf_tools.specs.Clauses.Ordering.{with_name};
 
 use pf_base::{Bytes, NoMemory};
 use std::alloc::Global;
@@ -28,10 +28,10 @@ fn place_of(names: &[Bytes], name: &[u8]) -> Option<usize>
     ensures put { with_name names.now name.now ≡ option_map_or (λ place. insert names.now place name.now) result names.now }
 {
     for (place, other) in names.iter().enumerate() {
-        match other.as_slice().cmp(name) {
-            Ordering::Less => {}
+        match name.cmp(other.as_slice()) {
+            Ordering::Less => return Some(place),
             Ordering::Equal => return None,
-            Ordering::Greater => return Some(place),
+            Ordering::Greater => {}
         }
     }
     Some(names.len())

@@ -2,23 +2,24 @@
 ghost use Rattle.std.specs.Prelude.{◌≡◌, ◌==◌, ◌≢◌, ◌∷◌, codes, IfOk};
 ghost use Rattle.std.specs.List.{position};
 ghost use Rattle.std.specs.Option.{option_copied, option_map_or};
+ghost use Rattle.pf_base.specs.Ascii as ascii;
 ghost use Rattle.pf_base.specs.Clauses.Unless.{Unless};
+ghost use Rattle.pf_base.specs.declared.meaning.Meaning.TheVariants.{Is, DomainOf};
 ghost use Rattle.pf_maincf.specs.Clauses.Faults.{as_fault};
 ghost use Rattle.pf_expand.specs.Names as names;
-ghost use Rattle.pf_expand.specs.Names.{Source as source};
-ghost use Rattle.pf_params.specs.Presets.{preset_of};
 ghost use Rattle.pf_params.specs.Settled.{or_refused};
+ghost use Rattle.pf_params.specs.Sources.{preset_of};
 ghost use Rattle.pf_tools.specs.Values as spec;
 
 use crate::all_settings::AllSettings;
-use pf_base::{Bytes, ConfFault, NoMemory, Refused};
-use pf_catalogue::{Preset, param, preset_of};
+use pf_base::{Bytes, ConfFault, Meaning, NoMemory, Refused};
+use pf_catalogue::{param, param_row};
 use pf_words::{ConfMode, ConfWords, Shape};
 use std::alloc::Global;
 
 // The place of the first dot.
 fn dot_place(host: &[u8]) -> Option<usize>
-    ensures { result ≡ position (λ b. b == 46) host.now }
+    ensures { result ≡ position (λ b. b == ascii.dot) host.now }
 {
     host.iter().position(|b| *b == b'.')
 }
@@ -46,7 +47,7 @@ fn text_with(alloc: Global, name: &[u8]) -> Result<Bytes, NoMemory>
 // The domain in the value of a name.
 fn domain_shown(alloc: Global, all: &AllSettings, host: &[u8]) -> Result<Bytes, ConfFault>
     requires { host.now ≡ codes "myhostname" }
-    ensures { Unless result ConfFault.NoMemory (λ r. r ≡ as_fault (or_refused all.now.file (spec.value_in all.now (source.domain host.now)))) }
+    ensures { Unless result ConfFault.NoMemory (λ r. r ≡ as_fault (or_refused all.now.file (spec.value_in all.now (DomainOf host.now)))) }
 {
     let Ok(text) = text_with(alloc, host) else {
         return Err(ConfFault::NoMemory);
@@ -65,7 +66,7 @@ fn text_shown(
     expanded: bool,
     text: &[u8],
 ) -> Result<Bytes, ConfFault>
-    ensures { Unless result ConfFault.NoMemory (λ r. r ≡ as_fault (or_refused all.now.file (spec.shown expanded all.now (source.text text.now)))) }
+    ensures { Unless result ConfFault.NoMemory (λ r. r ≡ as_fault (or_refused all.now.file (spec.shown expanded all.now (Is text.now)))) }
 {
     if expanded {
         return all.expand(alloc, text);
@@ -87,16 +88,16 @@ fn preset_shown(
 {
     match param(name) {
         None => text_shown(alloc, all, expanded, b""),
-        Some(p) => match preset_of(p) {
-            Preset::Is(text) => text_shown(alloc, all, expanded, text),
-            Preset::DomainOf(host) => domain_shown(alloc, all, host),
+        Some(p) => match param_row(p).2 {
+            Meaning::Is(text) => text_shown(alloc, all, expanded, text),
+            Meaning::DomainOf(host) => domain_shown(alloc, all, host),
         },
     }
 }
 
 // The text that is set for a name and counts.
 fn counting_text<'a>(mode: ConfMode, all: &'a AllSettings, name: &[u8]) -> Option<&'a Bytes>
-    ensures { spec.source_in mode all.now name.now ≡ option_map_or source.text (option_copied result) (preset_of name.now) }
+    ensures { spec.source_in mode all.now name.now ≡ option_map_or Is (option_copied result) (preset_of name.now) }
 {
     match mode {
         ConfMode::Defaults => None,

@@ -19,7 +19,6 @@ use Rattle.pf_expand.specs.Expansion.{parts, text_value}
 use Rattle.pf_expand.specs.Forms.{first_part, form_of}
 use Rattle.pf_expand.specs.Names.{name_value}
 use Rattle.pf_maincf.specs.Settings.{conf_of}
-use Rattle.pf_params.specs.Classes.{class_of}
 use Rattle.pf_params.specs.Parameters.{reading_of}
 use Rattle.pf_params.specs.Settled.{Settled}
 use Rattle.pf_params.specs.declared.readings.Reading.{Reading}
@@ -149,7 +148,7 @@ causes = refl
 -- what a main.cf says
 accepted_main_cf : map (file_opened (codes "main.cf")) (Some text ∷ None ∷ [])
     ≡ Ok site ∷ Err (record { file = codes "main.cf"; line = 0; cause = C10; name = codes "main.cf" }) ∷ []
-unfolding conf_of settings_refusal parameter_refusal class_of opening_of reading_named reading_of words_of catalogue name_value text_value parts first_part form_of host_of hosts_of nets_of net_of ipv4_of octet_of relay_of
+unfolding conf_of settings_refusal parameter_refusal opening_of reading_named reading_of words_of catalogue name_value text_value parts first_part form_of host_of hosts_of nets_of net_of ipv4_of octet_of relay_of
     restriction_of
 accepted_main_cf = refl
 
@@ -160,7 +159,7 @@ values_of_names : file_opened (codes "main.cf") (Some (codes "n = 10.0.0.0/8\nmy
       banner = codes "a.b M";
       policy = record { destinations = codes "a.b" ∷ codes "localhost.b" ∷ codes "localhost" ∷ []; networks = ten ∷ []; relay = RejectUnauthDestination ∷ [] };
     })
-unfolding conf_of settings_refusal parameter_refusal class_of opening_of reading_named reading_of words_of catalogue name_value text_value parts first_part form_of host_of hosts_of nets_of net_of ipv4_of octet_of relay_of
+unfolding conf_of settings_refusal parameter_refusal opening_of reading_named reading_of words_of catalogue name_value text_value parts first_part form_of host_of hosts_of nets_of net_of ipv4_of octet_of relay_of
     restriction_of
 values_of_names = refl
 
@@ -189,14 +188,14 @@ parameters_in_order : map said (text ∷ (text ++ codes "relay_domains = a\n") �
     ∷ Some (codes "postgate: main.cf:0: C14 setting outside the profile: mynetworks\n") ∷ Some (codes "postgate: main.cf:5: C14 setting outside the profile: mydestination\n")
     ∷ Some (codes "postgate: main.cf:6: C6 bad value: append_dot_mydomain\n") ∷ Some (codes "postgate: main.cf:6: C5 bad dollar form: myorigin\n")
     ∷ Some (codes "postgate: main.cf:0: C5 bad dollar form: mydomain\n") ∷ []
-unfolding conf_of settings_refusal parameter_refusal reading_named reading_of class_of words_of catalogue name_value text_value parts first_part form_of host_of hosts_of nets_of net_of
+unfolding conf_of settings_refusal parameter_refusal reading_named reading_of words_of catalogue name_value text_value parts first_part form_of host_of hosts_of nets_of net_of
     ipv4_of octet_of relay_of restriction_of refusal_line printed_line cause_text digits
 parameters_in_order = refl
 
 -- a class is looked at among the parameters
 class_among_parameters : map said ((text ++ codes "smtpd_restriction_classes = a\na = {\n") ∷ (text ++ codes "smtpd_restriction_classes = z\nz = {\n") ∷ [])
     ≡ Some (codes "postgate: main.cf:6: C6 bad value: a\n") ∷ Some (codes "postgate: main.cf:5: C14 setting outside the profile: smtpd_restriction_classes\n") ∷ []
-unfolding conf_of settings_refusal parameter_refusal reading_named reading_of class_of words_of catalogue name_value text_value parts first_part form_of host_of hosts_of nets_of net_of
+unfolding conf_of settings_refusal parameter_refusal reading_named reading_of words_of catalogue name_value text_value parts first_part form_of host_of hosts_of nets_of net_of
     ipv4_of octet_of relay_of restriction_of refusal_line printed_line cause_text digits
 class_among_parameters = refl
 
@@ -212,7 +211,7 @@ checks_of_the_relay_list = refl
 
 relay_list_is_last : map said ((text ++ codes "smtpd_relay_restrictions = permit\nz = $(\n") ∷ (text ++ codes "virtual_alias_maps = a:b\nsmtpd_relay_restrictions = permit\n") ∷ [])
     ≡ Some (codes "postgate: main.cf:5: C7 unknown restriction: permit\n") ∷ Some (codes "postgate: main.cf:5: C14 setting outside the profile: virtual_alias_maps\n") ∷ []
-unfolding conf_of settings_refusal parameter_refusal reading_named reading_of class_of words_of catalogue name_value text_value parts first_part form_of host_of hosts_of nets_of net_of
+unfolding conf_of settings_refusal parameter_refusal reading_named reading_of words_of catalogue name_value text_value parts first_part form_of host_of hosts_of nets_of net_of
     ipv4_of octet_of relay_of restriction_of refusal_line printed_line cause_text digits
 relay_list_is_last = refl
 

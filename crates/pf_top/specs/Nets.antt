@@ -2,8 +2,9 @@
 use Rattle.std.specs.Prelude.{ℕ, ◌-◌, ◌%◌, ◌^◌, ◌==◌, ◌&&◌, nat_le, List, Option, Some, None, if◌then◌else◌}
 use Rattle.std.specs.List.{after_first, before_first}
 use Rattle.pf_base.specs.Ascii as ascii
+use Rattle.pf_base.specs.Options.{◌>>=◌}
 use Rattle.pf_eval.specs.Nets.{Net}
-use Rattle.pf_words.specs.Address.{ipv4_of, octet_of, ◌>>=◌}
+use Rattle.pf_words.specs.Address.{ipv4_of, octet_of}
 
 -- the network of an address whose bits behind the prefix are 0
 abbrev pub net_with : ℕ → ℕ → Option Net

@@ -8,10 +8,9 @@ use Rattle.pf_base.specs.declared.refused.Cause.{Cause}
 use Rattle.pf_base.specs.declared.refused.Cause.TheVariants.{C14}
 use Rattle.pf_base.specs.declared.refused.Refused.{Refused}
 use Rattle.pf_catalogue.specs.Catalogue.{Row}
-use Rattle.pf_params.specs.Parameters.{items_in, reading_of, refusal_of}
+use Rattle.pf_params.specs.Parameters.{is_set, items_in, reading_of, refusal_of}
 use Rattle.pf_params.specs.Settled.{Settled}
 use Rattle.pf_params.specs.declared.readings.Reading.{Reading}
-use Rattle.pf_tools.specs.Asked.{is_set}
 use Rattle.pf_top.specs.Values.{hosts_of, nets_of}
 
 -- a parameter that may have any text

@@ -2,25 +2,25 @@
 -- postconf(5), smtpd_relay_restrictions, asks for a restriction that closes the server in the relay or the recipient list; only the relay list
 -- is built, and reject_unauth_destination alone closes it.
 use Rattle.std.specs.Prelude.{ℕ, List, [], Option, None, Some, Result, Ok, Err, is_none, is_some, if◌then◌else◌}
-use Rattle.std.specs.List.{find}
+use Rattle.std.specs.List.{find, fold}
 use Rattle.std.specs.Option.{option_map, option_map_or, option_or}
+use Rattle.pf_base.specs.Results.{◌>>=◌}
 use Rattle.pf_base.specs.declared.refused.Cause.TheVariants.{C7, C14}
 use Rattle.pf_base.specs.declared.refused.Refused.{Refused}
 use Rattle.pf_catalogue.specs.Catalogue.{catalogue}
 use Rattle.pf_maincf.specs.Settings.{conf_of}
-use Rattle.pf_params.specs.Classes.{class_names, first_refusal}
-use Rattle.pf_params.specs.Parameters.{refusal_of}
+use Rattle.pf_params.specs.Classes.{class_names, class_rows}
+use Rattle.pf_params.specs.Parameters.{refusal_of, refusals, with_lesser}
 use Rattle.pf_params.specs.Settled.{Settled, settled}
 use Rattle.pf_top.specs.Opening.{items_named, opening_of, relay_list}
 use Rattle.pf_top.specs.Profile.{first_refused}
-use Rattle.pf_tools.specs.Printed.{◌>>=◌}
 use Rattle.pf_tools.specs.Said.{conf_text}
 use Rattle.pf_top.specs.declared.opening.Opening.{Opening}
 use Rattle.pf_top.specs.Values.{relay_of, restriction_of}
 
 -- the parameters and the classes of restrictions, together in byte order of their names
 abbrev pub names_refusal : Settled → Option Refused
-names_refusal s = first_refusal s (first_refused s catalogue) (class_names s)
+names_refusal s = fold with_lesser (first_refused s catalogue) (refusals s (class_rows s (class_names s)))
 
 -- a word of the relay list that is no restriction
 abbrev pub word_refused : Settled → List ℕ → Refused

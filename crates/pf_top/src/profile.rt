@@ -2,7 +2,6 @@
 ghost use Rattle.std.specs.Prelude.{◌≡◌, IfOk};
 ghost use Rattle.pf_catalogue.specs.Catalogue.{catalogue, row_at};
 ghost use Rattle.pf_params.specs.Parameters as parameters;
-ghost use Rattle.pf_tools.specs.Asked as asked;
 ghost use Rattle.pf_top.specs.Profile as profile;
 
 use crate::values::{hosts_of, nets_of};
@@ -10,12 +9,6 @@ use pf_base::{Bytes, Cause, NoMemory, Refused, is_host_name};
 use pf_catalogue::{PARAMS, Param, Value, param_at, param_name};
 use pf_params::{Known, Reading};
 use std::alloc::Global;
-
-fn is_set(known: &Known, name: &[u8]) -> bool
-    ensures { result ≡ asked.is_set known.now name.now }
-{
-    known.last(name).is_some()
-}
 
 // The items of a value, none where it is no list.
 fn items_in(value: &Value) -> &[Bytes]
@@ -60,13 +53,13 @@ fn is_within(alloc: Global, name: &[u8], set: bool, reading: &Reading) -> Result
 // The cause of a parameter's refusal.
 fn cause_of(alloc: Global, known: &Known, p: Param) -> Result<Option<Cause>, NoMemory>
     ensures { IfOk result (λ cause. cause
-        ≡ profile.cause_from (row_at p).name (asked.is_set known.now (row_at p).name) (parameters.reading_of known.now (row_at p))) }
+        ≡ profile.cause_from (row_at p).name (parameters.is_set known.now (row_at p).name) (parameters.reading_of known.now (row_at p))) }
 {
     match known.reading(alloc, p)? {
         Err(cause) => Ok(Some(cause)),
         Ok(reading) => {
             let name = param_name(p);
-            if is_within(alloc, name, is_set(known, name), &reading)? {
+            if is_within(alloc, name, known.is_set(name), &reading)? {
                 Ok(None)
             } else {
                 Ok(Some(Cause::C14))

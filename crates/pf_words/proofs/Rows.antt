@@ -7,7 +7,8 @@ use Rattle.clap.specs.Words.{fault_of}
 use Rattle.clap.specs.declared.error.kind.ErrorKind.TheVariants as kind
 use Rattle.clap.proofs.OnLiterals.{clap_on_literals}
 use Rattle.pf_maincf.specs.declared.setting.Setting.{Setting}
-use Rattle.pf_words.specs.Address.{ipv4_of, ipv4_of_octets, octet_of, ◌>>=◌}
+use Rattle.pf_base.specs.Options.{◌>>=◌}
+use Rattle.pf_words.specs.Address.{ipv4_of, ipv4_of_octets, octet_of}
 use Rattle.pf_words.specs.Commands.{bare_app, postconf_app, smtpd_app, with_flag, with_option, with_rest}
 use Rattle.pf_words.specs.Found.{has_flag, rows_in, value_in}
 use Rattle.pf_words.specs.Numbers.{budget_of, decimal_within, is_decimal}

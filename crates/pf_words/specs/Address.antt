@@ -1,18 +1,13 @@
 -- IPv4 addresses as they are written (postconf(5), mynetworks). That numbers have no leading zeros is postgate's own.
 use Rattle.std.specs.Prelude.{ℕ, ◌+◌, ◌*◌, ◌==◌, List, [], ◌∷◌, Option, Some, None}
 use Rattle.std.specs.List.{slice_split}
-use Rattle.std.specs.Option.{option_and_then}
 use Rattle.pf_base.specs.Ascii as ascii
+use Rattle.pf_base.specs.Options.{◌>>=◌}
 use Rattle.pf_words.specs.Numbers.{decimal_within}
 
 -- a decimal number from 0 to 255
 unfoldable pub octet_of : List ℕ → Option ℕ
 octet_of text = decimal_within 255 text
-
--- the one and then the other, where both are
-infixl 10 ◌>>=◌
-abbrev pub ◌>>=◌ : {A B : Type 0} → Option A → (A → Option B) → Option B
-o >>= f = option_and_then f o
 
 -- four octets, the first one the highest
 abbrev pub ipv4_of_octets : List (List ℕ) → Option ℕ

@@ -2,7 +2,8 @@
 use Rattle.std.specs.Prelude.{ℕ, List, Option, Some, None, codes}
 use Rattle.std.specs.Option.{option_and_then}
 use Rattle.clap.specs.Words.{Row}
-use Rattle.pf_words.specs.Address.{ipv4_of, ◌>>=◌}
+use Rattle.pf_base.specs.Options.{◌>>=◌}
+use Rattle.pf_words.specs.Address.{ipv4_of}
 use Rattle.pf_words.specs.Commands.{smtpd_app}
 use Rattle.pf_words.specs.Found.{rows_in, value_in}
 use Rattle.pf_words.specs.Numbers.{budget_of, greatest_budget}

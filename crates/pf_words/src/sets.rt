@@ -1,6 +1,7 @@
 //! Words that set a parameter, `name=value`.
 ghost use Rattle.std.specs.Prelude.{◌≡◌, ◌==◌, IfOk, IfSome};
 ghost use Rattle.std.specs.List.{position};
+ghost use Rattle.pf_base.specs.Ascii as ascii;
 ghost use Rattle.pf_maincf.specs.Edit.{AreSets};
 ghost use Rattle.pf_words.specs.Sets as sets;
 
@@ -10,7 +11,7 @@ use std::alloc::Global;
 
 // The place of the first equals sign.
 fn equals_sign(word: &[u8]) -> Option<usize>
-    ensures { result ≡ position (λ b. b == 61) word.now }
+    ensures { result ≡ position (λ b. b == ascii.equals_sign) word.now }
 {
     word.iter().position(|b| *b == b'=')
 }

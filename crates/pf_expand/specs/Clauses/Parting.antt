@@ -1,7 +1,8 @@
 -- A text that is being parted: what is left of it. Words of the code's contracts.
 use Rattle.std.specs.Prelude.{◌≡◌, ◌<◌, ℕ, ◌+◌, ◌*◌, ◌++◌, Bool, true, List, [], ◌∷◌, Option, None, Some, length, if◌then◌else◌}
 use Rattle.std.specs.List.{fold, sum_by}
-use Rattle.std.specs.Option.{option_and_then, option_map}
+use Rattle.std.specs.Option.{option_map}
+use Rattle.pf_base.specs.Options.{◌>>=◌}
 use Rattle.pf_expand.specs.Clauses.Tokens.{tokens_of}
 use Rattle.pf_expand.specs.declared.parse.Left.{Left}
 use Rattle.pf_expand.specs.declared.parse.Left.TheVariants as left
@@ -16,7 +17,9 @@ one_gives left.End = Some (End ∷ [])
 
 -- pieces before others
 abbrev pub before : Option (List Token) → Option (List Token) → Option (List Token)
-before first behind = option_and_then (λ a. option_map (λ b. a ++ b) behind) first
+before first behind = do
+  a ← first
+  option_map (λ b. a ++ b) behind
 
 -- the pieces of what is left, of which the last thing comes first
 abbrev pub gives : List Left → Option (List Token)

@@ -32,9 +32,9 @@ pub write_meaning-returns-in-None : goal.write_meaning-returns-in-None
 write_meaning-returns-in-None t c =
     rw (none_there c.args.names.now c.args.levels c.args.name.now (sym (rw c.in-None.is at c.get.ensures))) (sym (append-nil c.args.out.now))
 
-pub write_meaning-returns-in-Some-BadForm : goal.write_meaning-returns-in-Some-BadForm
-write_meaning-returns-in-Some-BadForm t c =
-    absurd (bad_there c.args.names.now c.args.levels c.args.name.now (sym (rw (c.in-Some-BadForm.is, c.in-Some-BadForm.field-0-is) at c.get.ensures)) c.requires.there)
+pub write_meaning-returns-in-Some-Is-None : goal.write_meaning-returns-in-Some-Is-None
+write_meaning-returns-in-Some-Is-None t c =
+    absurd (bad_there c.args.names.now c.args.levels c.args.name.now (sym (rw (c.in-Some-Is-None.is, c.in-Some-Is-None.field-0-is, c.in-Some-Is-None.field-0-0-is) at c.get.ensures)) c.requires.there)
 
 pub write_meaning-write_pieces-requires : goal.write_meaning-write_pieces-requires
 write_meaning-write_pieces-requires t c = (
@@ -44,7 +44,7 @@ write_meaning-write_pieces-requires t c = (
     (
       c.requires.levels,
       rw c.as_slice.ensures
-          (ap is_ok (sym (text_there c.args.names.now c.args.levels c.args.name.now c.in-Some-Text.tokens (sym (rw (c.in-Some-Text.is, c.in-Some-Text.field-0-is) at c.get.ensures)) c.requires.there))
+          (ap is_ok (sym (text_there c.args.names.now c.args.levels c.args.name.now c.in-Some-Is-Some.tokens (sym (rw (c.in-Some-Is-Some.is, c.in-Some-Is-Some.field-0-is, c.in-Some-Is-Some.field-0-0-is) at c.get.ensures)) c.requires.there))
           ∙ c.requires.there),
     ),
   ),
@@ -63,10 +63,10 @@ write_meaning-write_domain-requires t c = (
   ),
 )
 
-pub write_meaning-returns-in-Some-Text : goal.write_meaning-returns-in-Some-Text
-write_meaning-returns-in-Some-Text t c =
+pub write_meaning-returns-in-Some-Is-Some : goal.write_meaning-returns-in-Some-Is-Some
+write_meaning-returns-in-Some-Is-Some t c =
     rw (
-      text_there c.args.names.now c.args.levels c.args.name.now c.in-Some-Text.tokens (sym (rw (c.in-Some-Text.is, c.in-Some-Text.field-0-is) at c.get.ensures)) c.requires.there,
+      text_there c.args.names.now c.args.levels c.args.name.now c.in-Some-Is-Some.tokens (sym (rw (c.in-Some-Is-Some.is, c.in-Some-Is-Some.field-0-is, c.in-Some-Is-Some.field-0-0-is) at c.get.ensures)) c.requires.there,
       ← c.as_slice.ensures,
     ) c.write_pieces.ensures
 

@@ -1,6 +1,6 @@
 use Rattle.std.proofs.Common.{◌≡◌, drop}
 use Rattle.pf_catalogue.specs.Catalogue.{catalogue}
-use Rattle.pf_params.specs.Parameters.{before, readings_of}
+use Rattle.pf_params.specs.Clauses.Readings.{before, readings_of}
 use Rattle.pf_params.proofs.readings.readings_of.Given as goal
 
 abbrev pub invariant-loop-place : goal.invariant-loop-place

@@ -6,6 +6,6 @@ use Rattle.pf_params.proofs.table.set_names.Goals as goal
 pub loop-setting-preserved : goal.loop-setting-preserved
 loop-setting-preserved c = λ presets are.
     let before = take c.loop-setting.setting-index c.args.settings.now in
-    let set = rw (c.as_slice.ensures, c.as_slice-in-loop-setting.ensures) at c.in_ok-set_text.ensures.ok in
-    set_more c.set_text.new.self presets before _ c.setting-item.result (set (source_of presets before) (c.loop-setting.invariant presets are))
+    let set = rw (c.as_slice.ensures, c.as_slice-in-loop-setting.ensures) at c.in_ok-set.ensures.ok in
+    set_more c.set.new.self presets before _ c.setting-item.result (set (source_of presets before) (c.loop-setting.invariant presets are))
     (take_more c.args.settings.now c.loop-setting.setting-index c.setting-item.result (omega arith) c.setting-item.is)

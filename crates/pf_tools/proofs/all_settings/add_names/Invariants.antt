@@ -1,6 +1,6 @@
 use Rattle.std.proofs.Common.{◌≡◌, map, take}
 use Rattle.std.specs.List.{fold}
-use Rattle.pf_tools.specs.Order.{with_name}
+use Rattle.pf_tools.specs.Clauses.Ordering.{with_name}
 use Rattle.pf_tools.proofs.all_settings.add_names.Given as goal
 
 abbrev pub invariant-loop-setting : goal.invariant-loop-setting

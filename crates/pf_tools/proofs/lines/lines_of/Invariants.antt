@@ -1,5 +1,6 @@
 use Rattle.std.proofs.Common.{◌≡◌, ◌++◌, drop, Ok}
-use Rattle.pf_tools.specs.Printed.{lines_of, ◌>>=◌}
+use Rattle.pf_base.specs.Results.{◌>>=◌}
+use Rattle.pf_tools.specs.Printed.{lines_of}
 use Rattle.pf_tools.proofs.lines.lines_of.Given as goal
 
 abbrev pub invariant-loop-name : goal.invariant-loop-name
