@@ -1,6 +1,6 @@
 pub mod Access
 pub mod Classes
-pub mod Contracts
+pub mod Clauses
 pub mod Policy
 pub mod Restrictions
 pub mod Senders

@@ -4,7 +4,7 @@ use Rattle.std.specs.Prelude.{not}
 use Rattle.std.specs.List.{list_all}
 use Rattle.std.proofs.lemmas.Bool.{and_from, and_parts, eqb-true, ne_eqb, not-true, not_from_false}
 use Rattle.std.proofs.lemmas.List.{take_more, length-take-le}
-use Rattle.pf_addr.specs.Contracts.Reading.{behind_at}
+use Rattle.pf_addr.specs.Clauses.Reading.{behind_at}
 use Rattle.pf_addr.proofs.Cases.{either_way}
 
 at_zero : (x : ℕ) → x ≡ (if eqb x 0 then 0 else 0 + x)

@@ -6,7 +6,7 @@ use Rattle.std.proofs.lemmas.Bool.{cases_lt, eqb-true, false_from_ne_true}
 use Rattle.std.proofs.lemmas.List.{get_or_at, get_or_past, take_more}
 use Rattle.std.proofs.lemmas.List.Sums.{prefix_len-le-length}
 use Rattle.pf_addr.specs.Grammar.{IsDomain, name, literal, is_literal_byte, is_name_byte, is_plain_byte}
-use Rattle.pf_addr.specs.Contracts.Reading.{domain_len, literal_len_of, unlimited_len}
+use Rattle.pf_addr.specs.Clauses.Reading.{domain_len, literal_len_of, unlimited_len}
 use Rattle.pf_addr.proofs.ByteLemmas.{name_is_no_bracket, name_is_plain}
 use Rattle.pf_addr.proofs.Cases.{either_way}
 use Rattle.pf_addr.proofs.Runs.{first_passes, run, run_passes}

@@ -6,7 +6,7 @@ use Rattle.std.proofs.lemmas.List.{get_or-take, take_at, take_more}
 use Rattle.std.proofs.lemmas.List.Folds.{list_all-append}
 use Rattle.std.proofs.lemmas.List.Sums.{prefix_len-le-length}
 use Rattle.pf_addr.specs.Grammar.{IsContent, IsDomain, IsLocalPart, name, literal, plain, quoted, is_lone_byte, is_name_byte, is_plain_byte}
-use Rattle.pf_addr.specs.Contracts.Reading.{behind_at, closing_quote, local_len, local_of, plain_len}
+use Rattle.pf_addr.specs.Clauses.Reading.{behind_at, closing_quote, local_len, local_of, plain_len}
 use Rattle.pf_addr.proofs.AtLemmas.{is_other, at_none, at_there, behind_at-append, none_at}
 use Rattle.pf_addr.proofs.ByteLemmas.{lone_is_no_at, lone_is_plain, name_is_no_at, name_is_plain, plain_is_lone, plain_is_no}
 use Rattle.pf_addr.proofs.Cases.{either_way, either_option}

@@ -5,7 +5,7 @@ use Rattle.std.proofs.lemmas.Bool.{and_from, and_parts, eqb-true, eqb-false, ne_
 use Rattle.std.proofs.lemmas.List.{drop_at, drop-drop, drop_more, get_or_at, get_or-append-add, take_at}
 use Rattle.std.proofs.lemmas.List.Folds.{list_all-append}
 use Rattle.pf_addr.specs.Grammar.{IsDomain, IsLocalPart, IsMailbox, name, literal, plain, quoted, with_domain, alone, is_lone_byte, is_plain_byte}
-use Rattle.pf_addr.specs.Contracts.Reading.{address_of, domain_len, local_len, local_of, mailbox, mailbox_len, route_len}
+use Rattle.pf_addr.specs.Clauses.Reading.{address_of, domain_len, local_len, local_of, mailbox, mailbox_len, route_len}
 use Rattle.pf_addr.specs.declared.address.Address.{Address}
 use Rattle.pf_addr.specs.declared.mailbox.Mailbox.{Mailbox}
 use Rattle.pf_addr.proofs.ByteLemmas.{lone_is_no_at, lone_is_plain, plain_is_no}

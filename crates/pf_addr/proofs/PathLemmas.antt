@@ -6,8 +6,8 @@ use Rattle.std.proofs.lemmas.List.{drop_at, get_or_at, take_more}
 use Rattle.std.proofs.lemmas.List.Sums.{prefix_len-le-length}
 use Rattle.pf_base.specs.Space.{is_space}
 use Rattle.pf_addr.specs.Grammar.{IsMailbox, IsPath, IsRoute, IsSpelling, none, domains, null, bracketed, bare, is_end, is_plain_byte}
-use Rattle.pf_addr.specs.Contracts.Reading as reading
-use Rattle.pf_addr.specs.Contracts.Reading.{address_of, mailbox, mailbox_len, route_len}
+use Rattle.pf_addr.specs.Clauses.Reading as reading
+use Rattle.pf_addr.specs.Clauses.Reading.{address_of, mailbox, mailbox_len, route_len}
 use Rattle.pf_addr.specs.declared.address.Address.{Address}
 use Rattle.pf_addr.specs.declared.address.Path.{Path}
 use Rattle.pf_addr.specs.declared.address.Path.TheVariants.{Null, To}

@@ -6,7 +6,7 @@ use Rattle.std.specs.Option.{option_map}
 use Rattle.std.proofs.lemmas.Bool.{eqb-true, or_from, or_parts}
 use Rattle.pf_addr.specs.Grammar.{IsContent, none, byte, pair}
 use Rattle.pf_addr.specs.Printed.{escaped}
-use Rattle.pf_addr.specs.Contracts.Reading.{closing_quote, unquoted}
+use Rattle.pf_addr.specs.Clauses.Reading.{closing_quote, unquoted}
 use Rattle.pf_addr.proofs.Cases.{either_way, either_option}
 
 -- a quoted string ends at the quote behind its content

@@ -7,7 +7,7 @@ use Rattle.std.proofs.lemmas.List.{take_at, take_more, length-take-le}
 use Rattle.std.proofs.lemmas.List.Folds.{list_all-append}
 use Rattle.std.proofs.lemmas.List.Sums.{passes_at_first, prefix_len-le-length}
 use Rattle.pf_addr.specs.Grammar.{IsRoute, none, domains, is_at_domain, is_name_byte, is_plain_byte, is_route}
-use Rattle.pf_addr.specs.Contracts.Reading.{route_len}
+use Rattle.pf_addr.specs.Clauses.Reading.{route_len}
 use Rattle.pf_addr.proofs.ByteLemmas.{other, plain_is_no}
 use Rattle.pf_addr.proofs.Cases.{either_way}
 use Rattle.pf_addr.proofs.Runs.{all_weaker, run}

@@ -3,7 +3,7 @@ use Rattle.std.proofs.Common.{◌≡◌, ◌∷◌, ℕ, List, [], Option, Some,
 use Rattle.std.specs.Prelude.{map}
 use Rattle.pf_addr.specs.Grammar.{IsSpelling, is_at_domain, is_literal_byte, is_name_byte, is_plain_byte, is_route}
 use Rattle.pf_addr.specs.Printed.{escaped, is_atom_byte, printed, printed_domain, printed_local}
-use Rattle.pf_addr.specs.Contracts.Reading.{address_of, bare, bracketed, closed, domain_len, local_len, local_of, mailbox, mailbox_len, path, plain_len, reading, route_len}
+use Rattle.pf_addr.specs.Clauses.Reading.{address_of, bare, bracketed, closed, domain_len, local_len, local_of, mailbox, mailbox_len, path, plain_len, reading, route_len}
 use Rattle.pf_addr.specs.declared.address.Address.{Address}
 use Rattle.pf_addr.specs.declared.address.Path.TheVariants.{Null, To}
 use Rattle.pf_addr.specs.declared.address.PathRead.{PathRead}

@@ -1,3 +1,3 @@
-pub mod Contracts
+pub mod Clauses
 pub mod Grammar
 pub mod Printed

@@ -2,7 +2,7 @@
 ghost use Rattle.std.specs.Prelude.{◌≡◌, ◌≤◌, ◌+◌, length};
 ghost use Rattle.std.specs.List.{prefix_len};
 ghost use Rattle.pf_addr.specs.Grammar as grammar;
-ghost use Rattle.pf_addr.specs.Contracts.Reading as reading;
+ghost use Rattle.pf_addr.specs.Clauses.Reading as reading;
 
 use crate::classes::{is_literal_byte, is_name_byte};
 
@@ -59,7 +59,7 @@ fn unlimited_len(text: &[u8]) -> usize
 }
 
 // The length of the domain that a text begins with.
-#[tactic(auto, unfolding(crate::specs::Contracts::Reading::domain_len))]
+#[tactic(auto, unfolding(crate::specs::Clauses::Reading::domain_len))]
 pub(crate) fn domain_len(text: &[u8]) -> usize
     ensures within { result ≤ length text.now }
     ensures count { result ≡ reading.domain_len text.now }

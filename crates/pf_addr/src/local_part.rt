@@ -2,7 +2,7 @@
 ghost use Rattle.std.specs.Prelude.{◌≡◌, ◌≤◌, ◌+◌, length, false, IfOk};
 ghost use Rattle.std.specs.List.{prefix_len};
 ghost use Rattle.pf_addr.specs.Grammar as grammar;
-ghost use Rattle.pf_addr.specs.Contracts.Reading as reading;
+ghost use Rattle.pf_addr.specs.Clauses.Reading as reading;
 
 use crate::classes::is_plain_byte;
 use crate::quoted::{closing_quote, unquoted};
@@ -35,7 +35,7 @@ fn behind_at(text: &[u8]) -> usize
 }
 
 // The length of the local part without quotes that a text begins with.
-#[tactic(auto, unfolding(crate::specs::Contracts::Reading::plain_len))]
+#[tactic(auto, unfolding(crate::specs::Clauses::Reading::plain_len))]
 fn plain_len(text: &[u8]) -> usize
     ensures within { result ≤ length text.now }
     ensures count { result ≡ reading.plain_len text.now }
@@ -57,7 +57,7 @@ fn quoted_len(behind: &[u8]) -> usize
 }
 
 // The length of the local part that a text begins with.
-#[tactic(auto, unfolding(crate::specs::Contracts::Reading::local_len))]
+#[tactic(auto, unfolding(crate::specs::Clauses::Reading::local_len))]
 pub(crate) fn local_len(text: &[u8]) -> usize
     ensures within { result ≤ length text.now }
     ensures count { result ≡ reading.local_len text.now }
@@ -69,7 +69,7 @@ pub(crate) fn local_len(text: &[u8]) -> usize
 }
 
 // What a local part means.
-#[tactic(auto, unfolding(crate::specs::Contracts::Reading::local_of))]
+#[tactic(auto, unfolding(crate::specs::Clauses::Reading::local_of))]
 pub(crate) fn local_of(alloc: Global, spelled: &[u8]) -> Result<Bytes, NoMemory>
     ensures { IfOk result (λ local. local ≡ reading.local_of spelled.now) }
 {

@@ -1,6 +1,6 @@
 //! Mailboxes, by the lengths of their parts (RFC 5321, 4.1.2).
 ghost use Rattle.std.specs.Prelude.{◌≡◌, ◌≤◌, ◌<◌, length, IfOk, IfSome};
-ghost use Rattle.pf_addr.specs.Contracts.Reading as reading;
+ghost use Rattle.pf_addr.specs.Clauses.Reading as reading;
 
 use crate::address::Address;
 use crate::domain::domain_len;
@@ -16,7 +16,7 @@ pub(crate) struct Mailbox {
 }
 
 // The mailbox that a text begins with.
-#[tactic(auto, unfolding(crate::specs::Contracts::Reading::mailbox, crate::specs::Contracts::Reading::mailbox_len))]
+#[tactic(auto, unfolding(crate::specs::Clauses::Reading::mailbox, crate::specs::Clauses::Reading::mailbox_len))]
 pub(crate) fn mailbox_in(text: &[u8]) -> Option<Mailbox>
     ensures within { IfSome result (λ m. reading.mailbox_len m ≤ length text.now) }
     ensures lengths { result ≡ reading.mailbox text.now }
@@ -43,7 +43,7 @@ fn with_domain(local: usize, domain: usize) -> Option<Mailbox>
 }
 
 // How long a mailbox is, its at sign counted.
-#[tactic(auto, unfolding(crate::specs::Contracts::Reading::mailbox_len))]
+#[tactic(auto, unfolding(crate::specs::Clauses::Reading::mailbox_len))]
 pub(crate) fn mailbox_len(text: &[u8], m: Mailbox) -> usize
     requires { reading.mailbox_len m ≤ length text.now }
     ensures { result ≡ reading.mailbox_len m }
@@ -56,7 +56,7 @@ pub(crate) fn mailbox_len(text: &[u8], m: Mailbox) -> usize
 }
 
 // The address of a mailbox that a text begins with.
-#[tactic(auto, unfolding(crate::specs::Contracts::Reading::address_of, crate::specs::Contracts::Reading::mailbox_len))]
+#[tactic(auto, unfolding(crate::specs::Clauses::Reading::address_of, crate::specs::Clauses::Reading::mailbox_len))]
 pub(crate) fn address_of(alloc: Global, text: &[u8], m: Mailbox) -> Result<Address, NoMemory>
     requires { reading.mailbox_len m ≤ length text.now }
     ensures { IfOk result (λ address. address ≡ reading.address_of text.now m) }

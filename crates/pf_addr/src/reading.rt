@@ -2,10 +2,10 @@
 ghost use Rattle.std.specs.Prelude.{◌≡◌, ◌≤◌, ◌<◌, ◌+◌, ◌^◌, length, IfOk, IfSome};
 ghost use Rattle.std.specs.List.{prefix_len};
 ghost use Rattle.pf_base.specs.Space as space;
-ghost use Rattle.pf_base.specs.Contracts.Unless.{Unless};
+ghost use Rattle.pf_base.specs.Clauses.Unless.{Unless};
 ghost use Rattle.pf_addr.specs.Grammar.{Reads};
 ghost use Rattle.pf_addr.specs.Grammar as grammar;
-ghost use Rattle.pf_addr.specs.Contracts.Reading as reading;
+ghost use Rattle.pf_addr.specs.Clauses.Reading as reading;
 
 use crate::address::{Path, PathFault, PathRead};
 use crate::mailbox::{address_of, mailbox_in, mailbox_len};
@@ -36,7 +36,7 @@ fn space_len(text: &[u8]) -> usize
 }
 
 // A path without brackets.
-#[tactic(auto, unfolding(crate::specs::Contracts::Reading::bare))]
+#[tactic(auto, unfolding(crate::specs::Clauses::Reading::bare))]
 fn bare(alloc: Global, text: &[u8]) -> Result<Option<PathRead>, NoMemory>
     ensures within { IfOk result (λ read. IfSome read (λ r. r.end ≤ length text.now)) }
     ensures path { IfOk result (λ read. read ≡ reading.bare text.now) }
@@ -56,7 +56,7 @@ fn bare(alloc: Global, text: &[u8]) -> Result<Option<PathRead>, NoMemory>
 }
 
 // A mailbox and the bracket behind it.
-#[tactic(auto, unfolding(crate::specs::Contracts::Reading::closed))]
+#[tactic(auto, unfolding(crate::specs::Clauses::Reading::closed))]
 fn closed(alloc: Global, text: &[u8]) -> Result<Option<PathRead>, NoMemory>
     ensures within { IfOk result (λ read. IfSome read (λ r. r.end ≤ length text.now)) }
     ensures path { IfOk result (λ read. read ≡ reading.closed text.now) }
@@ -88,7 +88,7 @@ fn behind(n: usize, read: Option<PathRead>) -> Option<PathRead>
 }
 
 // What stands behind the first bracket of a path.
-#[tactic(auto, unfolding(crate::specs::Contracts::Reading::bracketed))]
+#[tactic(auto, unfolding(crate::specs::Clauses::Reading::bracketed))]
 fn bracketed(alloc: Global, text: &[u8]) -> Result<Option<PathRead>, NoMemory>
     ensures within { IfOk result (λ read. IfSome read (λ r. r.end ≤ length text.now)) }
     ensures path { IfOk result (λ read. read ≡ reading.bracketed text.now) }
@@ -104,7 +104,7 @@ fn bracketed(alloc: Global, text: &[u8]) -> Result<Option<PathRead>, NoMemory>
     Ok(behind(route, read))
 }
 
-#[tactic(auto, unfolding(crate::specs::Contracts::Reading::path))]
+#[tactic(auto, unfolding(crate::specs::Clauses::Reading::path))]
 fn path_in(alloc: Global, text: &[u8]) -> Result<Option<PathRead>, NoMemory>
     ensures within { IfOk result (λ read. IfSome read (λ r. r.end ≤ length text.now)) }
     ensures path { IfOk result (λ read. read ≡ reading.path text.now) }
@@ -119,7 +119,7 @@ fn path_in(alloc: Global, text: &[u8]) -> Result<Option<PathRead>, NoMemory>
 }
 
 // A path behind space.
-#[tactic(auto, unfolding(crate::specs::Contracts::Reading::reading))]
+#[tactic(auto, unfolding(crate::specs::Clauses::Reading::reading))]
 fn read(alloc: Global, text: &[u8]) -> Result<Option<PathRead>, NoMemory>
     ensures { IfOk result (λ read. read ≡ reading.reading text.now) }
 {

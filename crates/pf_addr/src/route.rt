@@ -2,7 +2,7 @@
 ghost use Rattle.std.specs.Prelude.{◌≡◌, ◌≤◌, length};
 ghost use Rattle.std.specs.List.{list_all};
 ghost use Rattle.pf_addr.specs.Grammar as grammar;
-ghost use Rattle.pf_addr.specs.Contracts.Reading as reading;
+ghost use Rattle.pf_addr.specs.Clauses.Reading as reading;
 
 use crate::classes::is_name_byte;
 use crate::domain::DOMAIN_LIMIT;
@@ -36,7 +36,7 @@ fn is_route(text: &[u8]) -> bool
 }
 
 // The length of the route that a text begins with, its colon counted; 0 where there is none.
-#[tactic(auto, unfolding(crate::specs::Contracts::Reading::route_len))]
+#[tactic(auto, unfolding(crate::specs::Clauses::Reading::route_len))]
 pub(crate) fn route_len(text: &[u8]) -> usize
     ensures within { result ≤ length text.now }
     ensures count { result ≡ reading.route_len text.now }

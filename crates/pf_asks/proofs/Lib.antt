@@ -1,3 +1,4 @@
+pub mod BrokenLaws
 pub mod CountLaws
 pub mod HeldLaws
 pub mod LedLaws

@@ -1,4 +1,4 @@
-pub mod Contracts
+pub mod Clauses
 pub mod Heard
 pub mod Questions
 pub mod Resolving

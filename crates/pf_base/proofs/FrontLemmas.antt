@@ -4,7 +4,7 @@ use Rattle.std.proofs.Math.Seq.{take-append_seam}
 use Rattle.std.proofs.lemmas.Grind.{flat_map-append}
 use Rattle.std.proofs.lemmas.List.{take-append-drop}
 use Rattle.std.specs.List.{flat_map}
-use Rattle.pf_base.specs.Contracts.Fronts.{AddsFront}
+use Rattle.pf_base.specs.Clauses.Fronts.{AddsFront}
 
 -- the first parts are a front of all
 pub parts_front : {P : Type 0} (f : P → List ℕ) (old new : List ℕ) (parts : List P) (i : ℕ) → new ≡ old ++ flat_map f (take i parts) → AddsFront old new (flat_map f parts)

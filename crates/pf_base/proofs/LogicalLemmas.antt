@@ -2,7 +2,7 @@
 use Rattle.std.proofs.Common.{◌≡◌, List, [], ◌++◌, Option, Some, None, Ok, refl}
 use Rattle.std.specs.Option.{option_to_list}
 use Rattle.pf_base.specs.Logical.{outcome}
-use Rattle.pf_base.specs.Contracts.Gathering.{followed_by}
+use Rattle.pf_base.specs.Clauses.Gathering.{followed_by}
 use Rattle.pf_base.specs.declared.logical.Logical.{Logical}
 
 pub outcome_at_end : (closed : List Logical) (last : Option Logical) → outcome (followed_by closed last (record { leading = []; logical = [] })) ≡ Ok (closed ++ option_to_list last)

@@ -3,10 +3,10 @@ use Rattle.std.proofs.Common.{◌≡◌, ℕ, true, zero, suc, List, [], ◌∷�
 use Rattle.std.specs.Prelude.{⊤}
 use Rattle.std.specs.Io.KnownBytes.{append_known}
 use Rattle.pf_base.proofs.ToldLemmas.{append_known-nil}
-use Rattle.pf_base.specs.Contracts.Causes.{counted}
-use Rattle.pf_base.specs.Contracts.Objects.{Objects, Says, Sinks, StopsBy, sink_status, status_of}
+use Rattle.pf_base.specs.Clauses.Causes.{counted}
+use Rattle.pf_base.specs.Clauses.Objects.{Objects, Says, Sinks, StopsBy, sink_status, status_of}
 use Rattle.pf_base.specs.Statuses.{Counts, HasCauses, NoneRose, counts_of, is_among, without_fault}
-use Rattle.pf_base.specs.Contracts.Told.{Output, Tree, HoldsFront}
+use Rattle.pf_base.specs.Clauses.Told.{Output, Tree, HoldsFront}
 use Rattle.pf_base.specs.declared.status.TheConstants.{DONE, FILES_FAILED, NO_MEMORY, REFUSED, USAGE, WARNED}
 use Rattle.pf_base.specs.declared.texts.SinkFault.{SinkFault}
 use Rattle.pf_base.specs.declared.texts.SinkFault.TheVariants as fault

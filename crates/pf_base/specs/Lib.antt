@@ -1,6 +1,6 @@
 pub mod Ascii
 pub mod Braces
-pub mod Contracts
+pub mod Clauses
 pub mod FileList
 pub mod Lines
 pub mod Logical

@@ -5,7 +5,7 @@ ghost use Rattle.std.specs.Hash as fed;
 ghost use Rattle.std.specs.Cmp.Rules.{comparing, hashing};
 ghost use Rattle.std.proofs.Common.{rules};
 ghost use lib.Pointwise.{pointwise};
-ghost use Rattle.pf_base.specs.Contracts.Fronts.{AddsFront};
+ghost use Rattle.pf_base.specs.Clauses.Fronts.{AddsFront};
 
 use crate::fault::NoMemory;
 use std::alloc::Global;

@@ -3,8 +3,8 @@ ghost use Rattle.std.specs.Prelude.{◌≡◌, ◌++◌, Some, None, Ok, OnOk};
 ghost use Rattle.std.specs.Option.{option_to_list};
 ghost use Rattle.pf_base.specs.Lines.{without_return};
 ghost use Rattle.pf_base.specs.Logical as spec;
-ghost use Rattle.pf_base.specs.Contracts.Gathering.{IsBegun, IsContinued, TakesLine};
-ghost use Rattle.pf_base.specs.Contracts.Unless.{Unless};
+ghost use Rattle.pf_base.specs.Clauses.Gathering.{IsBegun, IsContinued, TakesLine};
+ghost use Rattle.pf_base.specs.Clauses.Unless.{Unless};
 
 use crate::bytes::Bytes;
 use crate::fault::NoMemory;

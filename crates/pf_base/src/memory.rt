@@ -4,7 +4,7 @@ ghost use Rattle.std.specs.List.{find, list_any, position};
 ghost use Rattle.std.specs.Option.{option_copied, option_map};
 ghost use Rattle.std.specs.Str.{bytes_eq};
 ghost use Rattle.std.specs.Io.{ReadsAtMost};
-ghost use Rattle.pf_base.specs.Contracts.Told.{Looks, Reads, Replaces, Writes, read_once};
+ghost use Rattle.pf_base.specs.Clauses.Told.{Looks, Reads, Replaces, Writes, read_once};
 
 use crate::bytes::Bytes;
 use crate::fault::{Failed, NoMemory, OuterFault};
@@ -30,7 +30,7 @@ struct Schedule {
 }
 
 impl Model for Schedule {
-    ghost use Rattle.pf_base.specs.Contracts.Memory.{Calls};
+    ghost use Rattle.pf_base.specs.Clauses.Memory.{Calls};
 
     ghost Value = { Calls };
 
@@ -38,7 +38,7 @@ impl Model for Schedule {
 }
 
 impl Schedule {
-    ghost use Rattle.pf_base.specs.Contracts.Memory.{CountsCall, none_made};
+    ghost use Rattle.pf_base.specs.Clauses.Memory.{CountsCall, none_made};
 
     fn new(failing: List<u64>) -> Schedule
         ensures { result ≡ none_made failing }
@@ -86,7 +86,7 @@ pub struct MemSource {
 
 impl Model for MemSource {
     ghost use Rattle.std.specs.Prelude.{◌≤◌, drop, length};
-    ghost use Rattle.pf_base.specs.Contracts.Memory.{MemorySource};
+    ghost use Rattle.pf_base.specs.Clauses.Memory.{MemorySource};
 
     ghost Value = { MemorySource };
 
@@ -101,7 +101,7 @@ impl Model for MemSource {
 }
 
 impl MemSource {
-    ghost use Rattle.pf_base.specs.Contracts.Memory.{greatest_read, none_made};
+    ghost use Rattle.pf_base.specs.Clauses.Memory.{greatest_read, none_made};
 
     /// These bytes. `cuts` are the greatest sizes of successive reads in bytes, the last one repeated; a cut of 0 counts
     /// as 1, and an empty list sets no limit. `failing` are the numbers, from 1, of the reads that fail.
@@ -135,7 +135,7 @@ impl MemSource {
 }
 
 impl Source for MemSource {
-    ghost use Rattle.pf_base.specs.Contracts.Memory.{MakesCall, bytes_read, fails_next, source_told};
+    ghost use Rattle.pf_base.specs.Clauses.Memory.{MakesCall, bytes_read, fails_next, source_told};
 
     ghost told = { source_told };
 
@@ -167,7 +167,7 @@ pub struct MemSink {
 }
 
 impl Model for MemSink {
-    ghost use Rattle.pf_base.specs.Contracts.Memory.{MemorySink};
+    ghost use Rattle.pf_base.specs.Clauses.Memory.{MemorySink};
 
     ghost Value = { MemorySink };
 
@@ -175,7 +175,7 @@ impl Model for MemSink {
 }
 
 impl MemSink {
-    ghost use Rattle.pf_base.specs.Contracts.Memory.{none_made};
+    ghost use Rattle.pf_base.specs.Clauses.Memory.{none_made};
 
     /// Nothing written yet. `failing` are the numbers, from 1, of the writes that fail.
     pub fn new(alloc: Global, failing: List<u64>) -> MemSink
@@ -196,7 +196,7 @@ impl MemSink {
 }
 
 impl Sink for MemSink {
-    ghost use Rattle.pf_base.specs.Contracts.Memory.{MakesCall, fails_next, sink_told};
+    ghost use Rattle.pf_base.specs.Clauses.Memory.{MakesCall, fails_next, sink_told};
 
     ghost told = { sink_told };
 
@@ -225,7 +225,7 @@ pub struct MemFiles {
 }
 
 impl Model for MemFiles {
-    ghost use Rattle.pf_base.specs.Contracts.Memory.{MemoryFiles};
+    ghost use Rattle.pf_base.specs.Clauses.Memory.{MemoryFiles};
 
     ghost Value = { MemoryFiles };
 
@@ -234,7 +234,7 @@ impl Model for MemFiles {
 
 impl MemFiles {
     ghost use Rattle.pf_base.specs.FileList.{with_file};
-    ghost use Rattle.pf_base.specs.Contracts.Memory.{none_made};
+    ghost use Rattle.pf_base.specs.Clauses.Memory.{none_made};
 
     /// These files, each a name with its bytes; of several with one name the first counts. `failing` are the numbers,
     /// from 1, of the calls that fail.
@@ -292,7 +292,7 @@ impl MemFiles {
 }
 
 impl Files for MemFiles {
-    ghost use Rattle.pf_base.specs.Contracts.Memory.{MakesCall, fails_next, files_told};
+    ghost use Rattle.pf_base.specs.Clauses.Memory.{MakesCall, fails_next, files_told};
     ghost use Rattle.pf_base.specs.FileList.{file_of, ReadsFrom};
     ghost use Rattle.pf_base.specs.declared.pair.Pair.{Pair};
 

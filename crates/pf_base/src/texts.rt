@@ -1,7 +1,7 @@
 //! The texts that are written to the sinks of a run.
 ghost use Rattle.std.specs.Prelude.{◌≡◌, [], IsOk};
-ghost use Rattle.pf_base.specs.Contracts.Objects.{Says, log_text, out_text, sink_status, sinks, status_of};
-ghost use Rattle.pf_base.specs.Contracts.Told.{Output, Writes};
+ghost use Rattle.pf_base.specs.Clauses.Objects.{Says, log_text, out_text, sink_status, sinks, status_of};
+ghost use Rattle.pf_base.specs.Clauses.Told.{Output, Writes};
 
 use crate::bytes::Bytes;
 use crate::fault::OuterFault;

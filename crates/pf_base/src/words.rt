@@ -2,7 +2,7 @@
 ghost use Rattle.std.specs.Prelude.{◌≡◌, ◌<◌, ◌≤◌, ◌+◌, [], ◌∷◌, ◌++◌, length, take, drop, nat_lt, IfNone, IfSome, IfOk, OnOk};
 ghost use Rattle.std.specs.List.{filter};
 ghost use Rattle.pf_base.specs.Words as spec;
-ghost use Rattle.pf_base.specs.Contracts.Unless.{Unless};
+ghost use Rattle.pf_base.specs.Clauses.Unless.{Unless};
 
 use crate::braces::{lone_brace, open_behind};
 use crate::bytes::Bytes;

@@ -2,7 +2,7 @@
 use Rattle.std.proofs.Common.{◌≡◌, ◌<◌, ℕ, ◌+◌, ◌++◌, List, [], ◌∷◌, length, get_or, drop, refl, sym, ap, ◌∙◌, append_assoc, append-nil}
 use Rattle.std.proofs.lemmas.List.{drop_more}
 use Rattle.pf_base.specs.TableTexts.{TableTexts}
-use Rattle.pf_catalogue.specs.Contracts.Adding.{AddsUpTo}
+use Rattle.pf_catalogue.specs.Clauses.Adding.{AddsUpTo}
 use Rattle.pf_catalogue.specs.Tables.{with_one, with_texts}
 
 pub added_none : (line : ℕ) (specs : TableTexts) (texts : List (List ℕ)) → AddsUpTo line specs specs texts texts

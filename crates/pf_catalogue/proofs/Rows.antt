@@ -11,7 +11,7 @@ use Rattle.pf_catalogue.specs.Catalogue.{Preset as preset}
 use Rattle.pf_catalogue.specs.Clients.{are_rewrite_clients}
 use Rattle.pf_catalogue.specs.Lists.{table_in}
 use Rattle.pf_catalogue.specs.Numbers.{number_within}
-use Rattle.pf_catalogue.specs.Contracts.RowsMeant.{row_meant}
+use Rattle.pf_catalogue.specs.Clauses.RowsMeant.{row_meant}
 use Rattle.pf_catalogue.specs.Tables.{tables_of, with_texts}
 use Rattle.pf_catalogue.specs.Values.{value_of}
 use Rattle.pf_catalogue.specs.declared.arguments.Argument.TheVariants as argument

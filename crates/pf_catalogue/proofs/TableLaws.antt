@@ -6,7 +6,7 @@ use Rattle.std.proofs.lemmas.Bool.{ltb-true}
 use Rattle.std.specs.List.{position, position_or_len}
 use Rattle.std.specs.Option.{option_map}
 use Rattle.pf_catalogue.specs.Catalogue as catalogue
-use Rattle.pf_catalogue.specs.Contracts.RowsMeant.{row_meant}
+use Rattle.pf_catalogue.specs.Clauses.RowsMeant.{row_meant}
 use Rattle.pf_catalogue.specs.declared.catalogue.Row.{Row}
 use Rattle.std.specs.Prelude.{slice_get}
 

@@ -3,7 +3,7 @@ ghost use Rattle.std.specs.Prelude.{◌≡◌, ◌<◌, length, map, IfSome};
 ghost use Rattle.std.specs.List.{position};
 ghost use Rattle.std.specs.Str.{bytes_eq};
 ghost use Rattle.pf_catalogue.specs.Catalogue as spec;
-ghost use Rattle.pf_catalogue.specs.Contracts.RowsMeant.{row_meant};
+ghost use Rattle.pf_catalogue.specs.Clauses.RowsMeant.{row_meant};
 
 use crate::kind::Kind::{
     self, AddressKinds, Code, Domains, Extensions, FixedYes, Hosts, Interfaces, Maps, Names,

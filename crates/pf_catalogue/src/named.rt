@@ -1,7 +1,7 @@
 //! What the table says of a parameter.
 ghost use Rattle.std.specs.Prelude.{◌≡◌, ◌<◌};
 ghost use Rattle.pf_catalogue.specs.Catalogue as spec;
-ghost use Rattle.pf_catalogue.specs.Contracts.RowsMeant.{preset_meant};
+ghost use Rattle.pf_catalogue.specs.Clauses.RowsMeant.{preset_meant};
 
 use crate::catalogue::{Preset, place_of, row_at};
 use crate::kind::Kind;

@@ -1,6 +1,6 @@
 //! The tables and files that a list names.
 ghost use Rattle.std.specs.Prelude.{◌≡◌, map, OnOk, OnErr};
-ghost use Rattle.pf_catalogue.specs.Contracts.Adding.{AddsFront};
+ghost use Rattle.pf_catalogue.specs.Clauses.Adding.{AddsFront};
 ghost use Rattle.pf_catalogue.specs.Tables as spec;
 ghost use Rattle.pf_catalogue.specs.declared.arguments.Argument.TheVariants.{Nothing};
 

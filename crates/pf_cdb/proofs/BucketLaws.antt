@@ -8,7 +8,7 @@ use Rattle.std.proofs.lemmas.List.FromFn.{get_or-map-range_with_len, length-map-
 use Rattle.std.proofs.lemmas.List.Sums.{sum_by-cons}
 use Rattle.std.proofs.lemmas.Nat.{mod_below}
 use Rattle.pf_base.specs.declared.pair.Pair.{Pair}
-use Rattle.pf_cdb.specs.Contracts.Gathered.{with_slot}
+use Rattle.pf_cdb.specs.Clauses.Gathered.{with_slot}
 use Rattle.pf_cdb.specs.Hash.{hash_of}
 use Rattle.pf_cdb.specs.Written.{by_table, is_of_table, of_table, placed, record_size}
 use Rattle.pf_cdb.specs.declared.layout.Slot.{Slot}

@@ -21,7 +21,7 @@ use Rattle.pf_cdb.proofs.SearchLaws.{get_table, length_table}
 use Rattle.pf_cdb.specs.Hash.{hash_of}
 use Rattle.pf_cdb.specs.Held.{elements_of, empty, held, is_held}
 use Rattle.pf_cdb.specs.Layout.{key_at, pair_at, slot_of, slots_in, table_of}
-use Rattle.pf_cdb.specs.Contracts.Listed.{held_in, held_places}
+use Rattle.pf_cdb.specs.Clauses.Listed.{held_in, held_places}
 use Rattle.pf_cdb.specs.Sound.{IsSound}
 
 pub held_says : (file : List ℕ) (at : ℕ) (found : Option ℕ) → held file (key_at file at) ≡ found → is_held file at ≡ option_map_or (λ place. place == at) found false

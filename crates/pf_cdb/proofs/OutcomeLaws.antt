@@ -2,7 +2,7 @@
 use Rattle.std.proofs.Common.{◌≡◌, ◌<◌, ◌≤◌, List, ℕ, Result, Ok, Err, cond, length, refl, ap, ◌∙◌, sym, subst}
 use Rattle.std.specs.Prelude.{IfOk}
 use Rattle.std.proofs.lemmas.Bool.{le-ltb, lt-ltb}
-use Rattle.pf_base.specs.Contracts.Unless.{Unless}
+use Rattle.pf_base.specs.Clauses.Unless.{Unless}
 use Rattle.pf_base.specs.declared.pair.Pair.{Pair}
 use Rattle.pf_cdb.specs.Written.{written, written_file}
 use Rattle.pf_cdb.specs.declared.writing.WriteFault.{WriteFault}

@@ -8,7 +8,7 @@ use Rattle.std.proofs.lemmas.List.Sums.{count_by_more_yes, prefix_len_is, sum_by
 use Rattle.std.proofs.lemmas.Nat.{div-add-mod', mod-mul-add, mod_below}
 use native.Mathlib.Nat.{add-mul}
 use Rattle.pf_cdb.proofs.SearchLaws.{get_tried, length_tried}
-use Rattle.pf_cdb.specs.Contracts.Gathered.{step_slot}
+use Rattle.pf_cdb.specs.Clauses.Gathered.{step_slot}
 use Rattle.pf_cdb.specs.Held.{empty, is_used, tried}
 use Rattle.pf_cdb.specs.Written.{filled, put}
 use Rattle.pf_cdb.specs.declared.layout.Slot.{Slot}

@@ -8,7 +8,7 @@ use Rattle.std.proofs.lemmas.List.Sums.{prefix_len_passes, prefix_len_stops}
 use Rattle.std.proofs.lemmas.Nat.{mod_below}
 use Rattle.pf_cdb.proofs.PlaceLaws.{all_used, count_empty, count_put, length_put}
 use Rattle.pf_cdb.proofs.SearchLaws.{get_tried, length_tried}
-use Rattle.pf_cdb.specs.Contracts.Gathered.{step_slot}
+use Rattle.pf_cdb.specs.Clauses.Gathered.{step_slot}
 use Rattle.pf_cdb.specs.Held.{empty, is_used, tried}
 use Rattle.pf_cdb.specs.Written.{filled, put}
 use Rattle.pf_cdb.specs.declared.layout.Slot.{Slot}

@@ -1,4 +1,4 @@
-pub mod Contracts
+pub mod Clauses
 pub mod Damaged
 pub mod Hash
 pub mod Held

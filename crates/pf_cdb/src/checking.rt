@@ -3,7 +3,7 @@ ghost use Rattle.std.specs.Prelude.{◌≡◌, ◌+◌, ◌*◌, ◌<◌, ◌≤
 ghost use Rattle.std.specs.Result.{result_err};
 ghost use Rattle.pf_cdb.specs.Damaged as spec;
 ghost use Rattle.pf_cdb.specs.Layout.{key_length, slot_of, slots_in, table_at, value_length};
-ghost use Rattle.pf_cdb.specs.Contracts.Readable.{HasTables, IsReadable};
+ghost use Rattle.pf_cdb.specs.Clauses.Readable.{HasTables, IsReadable};
 ghost use Rattle.pf_cdb.specs.Sound.{IsSound};
 
 use crate::damage::{Damage, Kind};

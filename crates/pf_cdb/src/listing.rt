@@ -4,7 +4,7 @@ ghost use Rattle.pf_cdb.specs.Held as held;
 ghost use Rattle.pf_cdb.specs.Held.{elements_of};
 ghost use Rattle.pf_cdb.specs.Layout.{key_length, value_length};
 ghost use Rattle.pf_cdb.specs.Layout as layout;
-ghost use Rattle.pf_cdb.specs.Contracts.Listed as listed;
+ghost use Rattle.pf_cdb.specs.Clauses.Listed as listed;
 ghost use Rattle.pf_cdb.specs.Sound.{IsSound};
 
 use crate::layout::{TABLES, key_at, slot_at, slots_in, value_span};

@@ -1,7 +1,7 @@
 //! Files that are written.
 ghost use Rattle.std.specs.Prelude.{◌≡◌, ◌+◌, ◌*◌, ◌<◌, ◌≤◌, ◌++◌, [], length, map, OnOk, OnErr, IfOk, IfSome, IfNone, Err, flat_map, replicate, sum_by};
-ghost use Rattle.pf_base.specs.Contracts.Unless.{Unless};
-ghost use Rattle.pf_cdb.specs.Contracts.Gathered.{slot_lists, with_slot};
+ghost use Rattle.pf_base.specs.Clauses.Unless.{Unless};
+ghost use Rattle.pf_cdb.specs.Clauses.Gathered.{slot_lists, with_slot};
 ghost use Rattle.pf_cdb.specs.Written as spec;
 
 use crate::hashing::hash;

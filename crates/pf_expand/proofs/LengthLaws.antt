@@ -5,10 +5,10 @@ use Rattle.std.proofs.Math.Seq.{drop-cons}
 use Rattle.pf_expand.proofs.ShapeLaws.{flaw_before, flaw_behind}
 use Rattle.pf_expand.proofs.RunLaws.{first_flaw_assoc}
 use Rattle.pf_expand.specs.Expansion.{length_limit}
-use Rattle.pf_expand.specs.Contracts.Levels.{choice_behind, shape_named}
-use Rattle.pf_expand.specs.Contracts.Runs.{behind, choice_name}
-use Rattle.pf_expand.specs.Contracts.RunsMeant.{depth_of}
-use Rattle.pf_expand.specs.Contracts.Shapes.{added, behind_choice, joined, long, run}
+use Rattle.pf_expand.specs.Clauses.Levels.{choice_behind, shape_named}
+use Rattle.pf_expand.specs.Clauses.Runs.{behind, choice_name}
+use Rattle.pf_expand.specs.Clauses.RunsMeant.{depth_of}
+use Rattle.pf_expand.specs.Clauses.Shapes.{added, behind_choice, joined, long, run}
 use Rattle.pf_expand.specs.declared.flaw.Flaw.TheVariants.{TooLong}
 use Rattle.pf_expand.specs.declared.lengths.Shapes.{Shapes}
 use Rattle.pf_expand.specs.declared.names.Meaning.{Meaning}

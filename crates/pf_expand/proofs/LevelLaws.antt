@@ -5,9 +5,9 @@ use Rattle.std.proofs.lemmas.List.{length-drop}
 use Rattle.std.specs.List.{position}
 use Rattle.pf_expand.proofs.ShapeLaws.{Limited}
 use Rattle.pf_expand.specs.Expansion.{Answer, joined, length_limit, within_limit}
-use Rattle.pf_expand.specs.Contracts.Meanings.{content, level_value, meaning_of, meaning_value}
+use Rattle.pf_expand.specs.Clauses.Meanings.{content, level_value, meaning_of, meaning_value}
 use Rattle.pf_expand.specs.Names.{domain_in, domain_of, past_dot}
-use Rattle.pf_expand.specs.Contracts.Runs.{added, behind, behind_choice, choice_name, flaw_alone, run}
+use Rattle.pf_expand.specs.Clauses.Runs.{added, behind, behind_choice, choice_name, flaw_alone, run}
 use Rattle.pf_expand.specs.declared.flaw.Flaw.TheVariants.{TooLong}
 use Rattle.pf_expand.specs.declared.names.Meaning.{Meaning}
 use Rattle.pf_expand.specs.declared.names.Meaning.TheVariants as meaning

@@ -6,7 +6,7 @@ use Rattle.std.specs.Map.{lookup}
 use Rattle.std.specs.Option.{unwrap_or}
 use Rattle.std.specs.Str.{bytes_eq}
 use Rattle.pf_expand.specs.Expansion.{parts}
-use Rattle.pf_expand.specs.Contracts.Meanings.{AreNames, meaning_of, meant, with_meaning}
+use Rattle.pf_expand.specs.Clauses.Meanings.{AreNames, meaning_of, meant, with_meaning}
 use Rattle.pf_expand.specs.Names.{Source, with_source}
 use Rattle.pf_expand.specs.Names.{Source as source}
 use Rattle.pf_expand.specs.declared.names.Meaning.{Meaning}

@@ -5,8 +5,8 @@ use Rattle.pf_expand.proofs.FormLemmas.{Shorter, first_part_size}
 use Rattle.pf_expand.specs.Expansion.{Text, choice_of, parts, parts_of, parts_with}
 use Rattle.pf_expand.specs.Forms.{Part, first_part}
 use Rattle.pf_expand.specs.Forms.{Part as part}
-use Rattle.pf_expand.specs.Contracts.Parting.{before}
-use Rattle.pf_expand.specs.Contracts.Tokens.{flat, tokens_of}
+use Rattle.pf_expand.specs.Clauses.Parting.{before}
+use Rattle.pf_expand.specs.Clauses.Tokens.{flat, tokens_of}
 use Rattle.pf_expand.specs.declared.token.Token.{Token}
 use Rattle.pf_expand.specs.declared.token.Token.TheVariants.{Literal, Name, Choose, Otherwise, End}
 

@@ -8,8 +8,8 @@ use Rattle.pf_expand.proofs.PartLaws.{before_assoc, part_gives, taken_more, toke
 use Rattle.pf_expand.specs.Expansion.{parts}
 use Rattle.pf_expand.specs.Forms.{Part, first_part}
 use Rattle.pf_expand.specs.Forms.{Part as part}
-use Rattle.pf_expand.specs.Contracts.Parting.{Takes, before, gives, one_gives, one_weighs, weighs}
-use Rattle.pf_expand.specs.Contracts.Tokens.{tokens_of}
+use Rattle.pf_expand.specs.Clauses.Parting.{Takes, before, gives, one_gives, one_weighs, weighs}
+use Rattle.pf_expand.specs.Clauses.Tokens.{tokens_of}
 use Rattle.pf_expand.specs.declared.parse.Left.{Left}
 use Rattle.pf_expand.specs.declared.token.Token.{Token}
 use Rattle.pf_expand.specs.declared.token.Token.TheVariants.{Choose, Otherwise, End}

@@ -11,11 +11,11 @@ use Rattle.std.specs.Str.{bytes_eq}
 use Rattle.pf_expand.proofs.LevelLaws.{level_limit}
 use Rattle.pf_expand.proofs.ShapeLaws.{run_shape}
 use Rattle.pf_expand.specs.Expansion.{Answer, length_limit, within_limit}
-use Rattle.pf_expand.specs.Contracts.Levels.{AreShapes, shape_at, shape_named}
-use Rattle.pf_expand.specs.Contracts.Meanings.{content, level_value, meaning_in, meaning_of, meaning_value, place_in}
+use Rattle.pf_expand.specs.Clauses.Levels.{AreShapes, shape_at, shape_named}
+use Rattle.pf_expand.specs.Clauses.Meanings.{content, level_value, meaning_in, meaning_of, meaning_value, place_in}
 use Rattle.pf_expand.specs.Names.{domain_in, domain_of}
-use Rattle.pf_expand.specs.Contracts.Runs as runs
-use Rattle.pf_expand.specs.Contracts.Shapes.{long, run, shape_of}
+use Rattle.pf_expand.specs.Clauses.Runs as runs
+use Rattle.pf_expand.specs.Clauses.Shapes.{long, run, shape_of}
 use Rattle.pf_expand.specs.declared.flaw.Flaw.{Flaw}
 use Rattle.pf_expand.specs.declared.flaw.Flaw.TheVariants.{TooDeep, TooLong}
 use Rattle.pf_expand.specs.declared.lengths.Shapes.{Shapes}

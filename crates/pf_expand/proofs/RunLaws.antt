@@ -3,8 +3,8 @@ use Rattle.std.proofs.Common.{◌≡◌, ℕ, ◌+◌, ◌-◌, ◌==◌, ◌++�
 use Rattle.std.proofs.lemmas.Bool.{ne_eqb}
 use Rattle.pf_expand.specs.Expansion.{Answer, Text, chosen, first_flaw, joined, value_of}
 use Rattle.pf_expand.specs.Expansion.{Text as text}
-use Rattle.pf_expand.specs.Contracts.Runs.{run}
-use Rattle.pf_expand.specs.Contracts.Tokens.{flat}
+use Rattle.pf_expand.specs.Clauses.Runs.{run}
+use Rattle.pf_expand.specs.Clauses.Tokens.{flat}
 use Rattle.pf_expand.specs.declared.flaw.Flaw.{Flaw}
 use Rattle.pf_expand.specs.declared.flaw.Flaw.TheVariants.{BadForm, TooDeep, TooLong}
 use Rattle.pf_expand.specs.declared.run.Mode.TheVariants.{Counts, ToOtherwise, ToEnd}

@@ -3,10 +3,10 @@ use Rattle.std.proofs.Common.{◌≡◌, ℕ, ◌+◌, ◌<◌, true, false, nat
 use Rattle.std.proofs.lemmas.Bool.{ltb-true, lt-ltb, ne_eqb}
 use Rattle.std.proofs.lemmas.List.{length-append}
 use Rattle.pf_expand.specs.Expansion.{Answer, first_flaw, joined, length_limit, within_limit}
-use Rattle.pf_expand.specs.Contracts.Runs as runs
-use Rattle.pf_expand.specs.Contracts.Runs.{added, behind, choice_name, run}
-use Rattle.pf_expand.specs.Contracts.Shapes as shapes
-use Rattle.pf_expand.specs.Contracts.Shapes.{long, shape_of}
+use Rattle.pf_expand.specs.Clauses.Runs as runs
+use Rattle.pf_expand.specs.Clauses.Runs.{added, behind, choice_name, run}
+use Rattle.pf_expand.specs.Clauses.Shapes as shapes
+use Rattle.pf_expand.specs.Clauses.Shapes.{long, shape_of}
 use Rattle.pf_expand.specs.declared.flaw.Flaw.{Flaw}
 use Rattle.pf_expand.specs.declared.flaw.Flaw.TheVariants.{BadForm, TooDeep, TooLong}
 use Rattle.pf_expand.specs.declared.run.Mode.{Mode}

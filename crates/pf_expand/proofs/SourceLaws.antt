@@ -3,10 +3,10 @@ use Rattle.std.proofs.Common.{◌≡◌, ℕ, ◌+◌, zero, suc, List, Ok, Opti
 use Rattle.pf_expand.proofs.ValueLaws.{value_of_bad, value_of_tokens}
 use Rattle.pf_expand.specs.Expansion.{Answer, Text, joined, parts_of, text_value, value_of, value_or_bad, within_limit}
 use Rattle.pf_expand.specs.Expansion.{Text as text}
-use Rattle.pf_expand.specs.Contracts.Meanings.{AreNames, kept, level_value, meaning_value, meant}
+use Rattle.pf_expand.specs.Clauses.Meanings.{AreNames, kept, level_value, meaning_value, meant}
 use Rattle.pf_expand.specs.Names.{Source, depth_limit, domain_of, expanded, name_value, source_value}
 use Rattle.pf_expand.specs.Names.{Source as source}
-use Rattle.pf_expand.specs.Contracts.Tokens.{tokens_of}
+use Rattle.pf_expand.specs.Clauses.Tokens.{tokens_of}
 use Rattle.pf_expand.specs.declared.names.Meaning.{Meaning}
 use Rattle.pf_expand.specs.declared.token.Token.{Token}
 

@@ -4,9 +4,9 @@ use Rattle.std.proofs.Math.Path.{fun_ext}
 use Rattle.pf_expand.proofs.LevelLaws.{level_limit, level_more}
 use Rattle.pf_expand.proofs.ValueLaws.{flawed_limit}
 use Rattle.pf_expand.specs.Expansion.{Answer, within_limit}
-use Rattle.pf_expand.specs.Contracts.Levels.{AreShapes, shape_at, shape_named}
-use Rattle.pf_expand.specs.Contracts.Meanings.{level_value, meaning_of, meaning_value, place_in}
-use Rattle.pf_expand.specs.Contracts.Shapes.{shape_of}
+use Rattle.pf_expand.specs.Clauses.Levels.{AreShapes, shape_at, shape_named}
+use Rattle.pf_expand.specs.Clauses.Meanings.{level_value, meaning_of, meaning_value, place_in}
+use Rattle.pf_expand.specs.Clauses.Shapes.{shape_of}
 use Rattle.pf_expand.specs.declared.lengths.Shapes.{Shapes}
 use Rattle.pf_expand.specs.declared.names.Meaning.{Meaning}
 

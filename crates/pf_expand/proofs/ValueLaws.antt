@@ -5,11 +5,11 @@ use Rattle.pf_expand.proofs.LevelLaws.{level_limit}
 use Rattle.pf_expand.proofs.RunLaws.{run_flat}
 use Rattle.pf_expand.proofs.ShapeLaws.{run_shape}
 use Rattle.pf_expand.specs.Expansion.{Answer, Text, joined, length_limit, parts_of, text_value, value_of, value_or_bad, within_limit}
-use Rattle.pf_expand.specs.Contracts.Levels.{AreShapes, shape_named}
-use Rattle.pf_expand.specs.Contracts.Meanings.{content, level_value}
-use Rattle.pf_expand.specs.Contracts.Runs as runs
-use Rattle.pf_expand.specs.Contracts.Shapes.{run, shape_of}
-use Rattle.pf_expand.specs.Contracts.Tokens.{flat, tokens_of}
+use Rattle.pf_expand.specs.Clauses.Levels.{AreShapes, shape_named}
+use Rattle.pf_expand.specs.Clauses.Meanings.{content, level_value}
+use Rattle.pf_expand.specs.Clauses.Runs as runs
+use Rattle.pf_expand.specs.Clauses.Shapes.{run, shape_of}
+use Rattle.pf_expand.specs.Clauses.Tokens.{flat, tokens_of}
 use Rattle.pf_expand.specs.declared.flaw.Flaw.{Flaw}
 use Rattle.pf_expand.specs.declared.flaw.Flaw.TheVariants.{BadForm, TooLong}
 use Rattle.pf_expand.specs.declared.lengths.Shapes.{Shapes}

@@ -6,13 +6,13 @@ use Rattle.pf_expand.proofs.LevelLaws.{both, level_extends, level_limit}
 use Rattle.pf_expand.proofs.RoundLaws.{next_meaning}
 use Rattle.pf_expand.proofs.ShapeLaws.{choice_shape, limited_shape}
 use Rattle.pf_expand.specs.Expansion.{Answer, length_limit, within_limit}
-use Rattle.pf_expand.specs.Contracts.Levels.{AreShapes, choice_behind, shape_named}
-use Rattle.pf_expand.specs.Contracts.Meanings.{content, level_value, meaning_in}
+use Rattle.pf_expand.specs.Clauses.Levels.{AreShapes, choice_behind, shape_named}
+use Rattle.pf_expand.specs.Clauses.Meanings.{content, level_value, meaning_in}
 use Rattle.pf_expand.specs.Names.{domain_of}
-use Rattle.pf_expand.specs.Contracts.Runs.{added, behind, behind_choice, choice_name, flaw_alone, run}
-use Rattle.pf_expand.specs.Contracts.RunsMeant.{depth_of}
-use Rattle.pf_expand.specs.Contracts.Shapes as spec
-use Rattle.pf_expand.specs.Contracts.Shapes.{shape_of}
+use Rattle.pf_expand.specs.Clauses.Runs.{added, behind, behind_choice, choice_name, flaw_alone, run}
+use Rattle.pf_expand.specs.Clauses.RunsMeant.{depth_of}
+use Rattle.pf_expand.specs.Clauses.Shapes as spec
+use Rattle.pf_expand.specs.Clauses.Shapes.{shape_of}
 use Rattle.pf_expand.specs.declared.flaw.Flaw.TheVariants.{TooLong}
 use Rattle.pf_expand.specs.declared.lengths.Shapes.{Shapes}
 use Rattle.pf_expand.specs.declared.names.Meaning.{Meaning}

@@ -1,4 +1,4 @@
-pub mod Contracts
+pub mod Clauses
 pub mod Expansion
 pub mod Forms
 pub mod Names

@@ -3,7 +3,7 @@ ghost use Rattle.std.specs.Prelude.{◌≡◌, ◌≤◌, ◌==◌, length};
 ghost use Rattle.std.specs.List.{list_all, position, prefix_len};
 ghost use Rattle.std.specs.Option.{option_copied, option_map};
 ghost use Rattle.pf_expand.specs.Forms as spec;
-ghost use Rattle.pf_expand.specs.Contracts.FormsMeant.{part_meant};
+ghost use Rattle.pf_expand.specs.Clauses.FormsMeant.{part_meant};
 
 use pf_base::{closing_brace, trimmed, without_leading_space};
 

@@ -1,7 +1,7 @@
 //! What is known of the values of names.
 ghost use Rattle.std.specs.Prelude.{◌≡◌};
-ghost use Rattle.pf_expand.specs.Contracts.Levels as levels;
-ghost use Rattle.pf_expand.specs.Contracts.Shapes as spec;
+ghost use Rattle.pf_expand.specs.Clauses.Levels as levels;
+ghost use Rattle.pf_expand.specs.Clauses.Shapes as spec;
 ghost use Rattle.pf_expand.specs.declared.run.Mode.TheVariants.{Counts};
 
 use crate::names::Names;

@@ -2,9 +2,9 @@
 ghost use Rattle.std.specs.Prelude.{◌≡◌, ℕ, List as Seq, [], length, slice_get, IfOk, OnOk, OnErr};
 ghost use Rattle.std.specs.Map.{keys_of};
 ghost use Rattle.std.specs.Option.{option_copied};
-ghost use Rattle.pf_expand.specs.Contracts.Meanings as spec;
+ghost use Rattle.pf_expand.specs.Clauses.Meanings as spec;
 ghost use Rattle.pf_expand.specs.Names.{Source, with_source};
-ghost use Rattle.pf_expand.specs.Contracts.Tokens as tokens;
+ghost use Rattle.pf_expand.specs.Clauses.Tokens as tokens;
 
 use crate::parse::tokens_of;
 use crate::token::Token;

@@ -1,7 +1,7 @@
 //! Texts are parted.
 ghost use Rattle.std.specs.Prelude.{◌≡◌, ◌+◌, ◌*◌, ◌∷◌, [], Some, length, IfOk, OnOk};
-ghost use Rattle.pf_expand.specs.Contracts.Parting.{Takes, before, gives, weighs};
-ghost use Rattle.pf_expand.specs.Contracts.Tokens as spec;
+ghost use Rattle.pf_expand.specs.Clauses.Parting.{Takes, before, gives, weighs};
+ghost use Rattle.pf_expand.specs.Clauses.Tokens as spec;
 
 use crate::form::{Part, first_part};
 use crate::token::Token;

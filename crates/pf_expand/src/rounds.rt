@@ -1,10 +1,10 @@
 //! What is known of the values of names, level by level.
 ghost use Rattle.std.specs.Prelude.{◌≡◌, ◌+◌, ◌<◌, ◌↔◌, [], get_or, length, map, IfOk, IsTrue};
 ghost use Rattle.std.specs.Map.{keys_of};
-ghost use Rattle.pf_expand.specs.Contracts.Levels.{AreShapes};
-ghost use Rattle.pf_expand.specs.Contracts.Meanings.{level_value, meaning_value};
+ghost use Rattle.pf_expand.specs.Clauses.Levels.{AreShapes};
+ghost use Rattle.pf_expand.specs.Clauses.Meanings.{level_value, meaning_value};
 ghost use Rattle.pf_expand.specs.Names as expansion;
-ghost use Rattle.pf_expand.specs.Contracts.Shapes.{shape_of};
+ghost use Rattle.pf_expand.specs.Clauses.Shapes.{shape_of};
 
 use crate::flaw::Flaw;
 use crate::lengths::{Shapes, pieces_shape, shape_named};

@@ -1,8 +1,8 @@
 //! The pieces of a text in turn.
 ghost use Rattle.std.specs.Prelude.{◌≡◌, ◌<◌, ◌-◌, ◌^◌};
-ghost use Rattle.pf_expand.specs.Contracts.RunsMeant.{depth_of};
-ghost use Rattle.pf_expand.specs.Contracts.Runs as runs;
-ghost use Rattle.pf_expand.specs.Contracts.Shapes as shapes;
+ghost use Rattle.pf_expand.specs.Clauses.RunsMeant.{depth_of};
+ghost use Rattle.pf_expand.specs.Clauses.Runs as runs;
+ghost use Rattle.pf_expand.specs.Clauses.Shapes as shapes;
 
 use crate::shape::Shape;
 use crate::token::Token;

@@ -1,7 +1,7 @@
 //! What is known of a value before it is written.
 ghost use Rattle.std.specs.Prelude.{◌≡◌, ◌+◌};
 ghost use Rattle.pf_expand.specs.Expansion as expansion;
-ghost use Rattle.pf_expand.specs.Contracts.Shapes as spec;
+ghost use Rattle.pf_expand.specs.Clauses.Shapes as spec;
 
 use crate::flaw::Flaw;
 

@@ -1,8 +1,8 @@
 //! The values of texts and of names.
 ghost use Rattle.std.specs.Prelude.{◌≡◌, ◌+◌, ℕ, List as Seq, IfOk};
 ghost use Rattle.pf_expand.specs.Expansion.{text_value};
-ghost use Rattle.pf_expand.specs.Contracts.Levels.{AreShapes};
-ghost use Rattle.pf_expand.specs.Contracts.Meanings.{AreNames, level_value};
+ghost use Rattle.pf_expand.specs.Clauses.Levels.{AreShapes};
+ghost use Rattle.pf_expand.specs.Clauses.Meanings.{AreNames, level_value};
 ghost use Rattle.pf_expand.specs.Names.{Source, depth_limit, expanded, name_value};
 
 use crate::flaw::Flaw;
@@ -25,7 +25,7 @@ pub struct Values {
 
 impl Model for Values {
     ghost use Rattle.std.specs.Prelude.{◌≡◌, ℕ, List as Seq};
-    ghost use Rattle.pf_expand.specs.Contracts.Levels.{AreShapes};
+    ghost use Rattle.pf_expand.specs.Clauses.Levels.{AreShapes};
     ghost use Rattle.pf_expand.specs.Names.{depth_limit};
     ghost use Rattle.pf_expand.specs.declared.names.Meaning.{Meaning};
 

@@ -1,10 +1,10 @@
 //! Values are written.
 ghost use Rattle.std.specs.Prelude.{◌≡◌, ◌==◌, ◌≤◌, ◌+◌, ◌++◌, true, is_ok, OnOk};
 ghost use Rattle.std.specs.List.{position};
-ghost use Rattle.pf_expand.specs.Contracts.Levels.{AreShapes};
-ghost use Rattle.pf_expand.specs.Contracts.Meanings.{content, level_value};
+ghost use Rattle.pf_expand.specs.Clauses.Levels.{AreShapes};
+ghost use Rattle.pf_expand.specs.Clauses.Meanings.{content, level_value};
 ghost use Rattle.pf_expand.specs.Names as expansion;
-ghost use Rattle.pf_expand.specs.Contracts.Runs as runs;
+ghost use Rattle.pf_expand.specs.Clauses.Runs as runs;
 ghost use Rattle.pf_expand.specs.declared.run.Mode.TheVariants.{Counts};
 
 use crate::lengths::{Shapes, choice_behind, shape_named};

@@ -7,7 +7,7 @@ use Rattle.pf_base.specs.Logical.{is_ignored, starts_with_space}
 use Rattle.pf_maincf.proofs.Ends.{either_way}
 use Rattle.pf_maincf.proofs.SetLines.{and_left, not_true}
 use Rattle.pf_maincf.specs.Edit.{Blocks, Line, before_blocks, begins_logical, counts_for_nothing, edited_block, edited_by, set_at, set_line, standing}
-use Rattle.pf_maincf.specs.Contracts.Editing.{behind_left, blocks_left, first_left, line_left, set_from}
+use Rattle.pf_maincf.specs.Clauses.Editing.{behind_left, blocks_left, first_left, line_left, set_from}
 use Rattle.pf_maincf.specs.declared.setting.Setting.{Setting}
 
 -- behind the line of a set the ignored lines are left

@@ -8,7 +8,7 @@ use Rattle.pf_base.specs.declared.logical.Logical.{Logical}
 use Rattle.pf_base.proofs.LineEnds.{lines-append, rest-append}
 use Rattle.std.proofs.lemmas.Bool.{eqb-true}
 use Rattle.pf_maincf.specs.Edit.{Line, blocks_from, edited_lines, feed_behind, is_ended, set_at, set_line, with_line}
-use Rattle.pf_maincf.specs.Contracts.Editing.{blocks_left, line_left, set_from}
+use Rattle.pf_maincf.specs.Clauses.Editing.{blocks_left, line_left, set_from}
 use Rattle.pf_maincf.specs.declared.setting.Setting.{Setting}
 use Rattle.pf_maincf.proofs.BlockLemmas.{left_more}
 use Rattle.pf_maincf.proofs.Ends.{IsClean, clean_lines, clean_rest, either_option, either_way, has_feed, lines_at, lines_none, rest_at, rest_none}

@@ -8,7 +8,7 @@ use Rattle.pf_base.specs.declared.refused.Cause.TheVariants.{C1}
 use Rattle.pf_base.specs.declared.refused.ConfFault.{ConfFault}
 use Rattle.pf_base.specs.declared.refused.Refused.{Refused}
 use Rattle.pf_maincf.specs.Edit.{edited_in}
-use Rattle.pf_maincf.specs.Contracts.Faults.{as_fault}
+use Rattle.pf_maincf.specs.Clauses.Faults.{as_fault}
 use Rattle.pf_maincf.specs.Settings.{Conf, conf_of, conf_with, refused, settings_of, unless_continued}
 use Rattle.pf_maincf.specs.declared.setting.Setting.{Setting}
 

@@ -2,11 +2,11 @@
 ghost use Rattle.std.specs.Prelude.{◌≡◌, ◌==◌, ◌++◌, map, filter, IfOk, OnOk};
 ghost use Rattle.std.specs.List.{fold};
 ghost use Rattle.std.specs.Option.{option_copied};
-ghost use Rattle.pf_base.specs.Contracts.Unless.{Unless};
+ghost use Rattle.pf_base.specs.Clauses.Unless.{Unless};
 ghost use Rattle.pf_maincf.specs.Edit as edit;
 ghost use Rattle.pf_maincf.specs.Edit.{AreSets, IsEditOf, edited, set_line, with_line};
-ghost use Rattle.pf_maincf.specs.Contracts.Editing as editing;
-ghost use Rattle.pf_maincf.specs.Contracts.Faults.{as_fault};
+ghost use Rattle.pf_maincf.specs.Clauses.Editing as editing;
+ghost use Rattle.pf_maincf.specs.Clauses.Faults.{as_fault};
 
 use crate::maincf::MainCf;
 use crate::setting::Setting;

@@ -4,7 +4,7 @@ use Rattle.std.specs.List.{find}
 use Rattle.std.specs.Option.{option_map_or}
 use Rattle.std.specs.Str.{bytes_eq}
 use Rattle.pf_catalogue.specs.Catalogue.{Row, catalogue, row_at}
-use Rattle.pf_expand.specs.Contracts.Meanings.{AreNames, meant}
+use Rattle.pf_expand.specs.Clauses.Meanings.{AreNames, meant}
 use Rattle.pf_expand.specs.Names.{with_source}
 use Rattle.pf_expand.specs.Names.{Source as source}
 use Rattle.pf_expand.specs.declared.names.Meaning.{Meaning}

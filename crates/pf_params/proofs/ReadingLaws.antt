@@ -7,7 +7,7 @@ use Rattle.pf_catalogue.specs.Catalogue.{Row}
 use Rattle.pf_catalogue.specs.Values.{value_of}
 use Rattle.pf_catalogue.specs.declared.value.Value.{Value}
 use Rattle.pf_expand.specs.Expansion.{Answer}
-use Rattle.pf_expand.specs.Contracts.Meanings.{content}
+use Rattle.pf_expand.specs.Clauses.Meanings.{content}
 use Rattle.pf_maincf.specs.Settings.{last_setting}
 use Rattle.pf_params.specs.Accepted.{raw_of, said_by, text_of}
 use Rattle.pf_params.specs.Parameters.{before, line_of, may_stand, or_refused, raw_text, reading_from, reading_if, reading_of, readings_of, refusal_of}

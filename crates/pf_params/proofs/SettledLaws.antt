@@ -1,6 +1,6 @@
 -- Names with the defaults of parameters, and then with settings.
 use Rattle.std.proofs.Common.{◌≡◌, ℕ, List, [], ap, subst, ◌∙◌}
-use Rattle.pf_expand.specs.Contracts.Meanings.{AreNames, meaning_of}
+use Rattle.pf_expand.specs.Clauses.Meanings.{AreNames, meaning_of}
 use Rattle.pf_expand.specs.Names.{Source}
 use Rattle.pf_expand.specs.Names.{Source as source}
 use Rattle.pf_expand.specs.declared.names.Meaning.{Meaning}

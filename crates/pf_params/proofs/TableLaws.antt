@@ -4,7 +4,7 @@ use Rattle.std.proofs.Math.Seq.{take-suc}
 use Rattle.std.proofs.lemmas.List.{reverse-append}
 use Rattle.std.specs.List.{find}
 use Rattle.std.specs.Str.{bytes_eq}
-use Rattle.pf_expand.specs.Contracts.Meanings.{AreNames, meant}
+use Rattle.pf_expand.specs.Clauses.Meanings.{AreNames, meant}
 use Rattle.pf_expand.specs.Names.{Source, with_source}
 use Rattle.pf_expand.specs.Names.{Source as source}
 use Rattle.pf_expand.specs.declared.names.Meaning.{Meaning}

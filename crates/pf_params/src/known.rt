@@ -22,7 +22,7 @@ pub struct Known {
 }
 
 impl Model for Known {
-    ghost use Rattle.pf_expand.specs.Contracts.Meanings.{AreNames};
+    ghost use Rattle.pf_expand.specs.Clauses.Meanings.{AreNames};
     ghost use Rattle.pf_params.specs.Settled.{Settled, settled_source};
 
     ghost Value = { Settled };

@@ -1,12 +1,12 @@
 //! The settings of a main.cf, with their values.
 ghost use Rattle.std.specs.Prelude.{◌≡◌, Some, true, IfOk, is_some};
 ghost use Rattle.std.specs.Option.{option_copied, option_map};
-ghost use Rattle.pf_base.specs.Contracts.Unless.{Unless};
+ghost use Rattle.pf_base.specs.Clauses.Unless.{Unless};
 ghost use Rattle.pf_catalogue.specs.Catalogue.{row_at};
 ghost use Rattle.pf_catalogue.specs.Values.{IsNumberOf, are_items};
 ghost use Rattle.pf_catalogue.specs.declared.kind.Kind.TheVariants as kind;
 ghost use Rattle.pf_catalogue.specs.declared.value.Value.TheVariants as value;
-ghost use Rattle.pf_maincf.specs.Contracts.Faults.{as_fault};
+ghost use Rattle.pf_maincf.specs.Clauses.Faults.{as_fault};
 ghost use Rattle.pf_params.specs.Accepted as spec;
 ghost use Rattle.pf_params.specs.Parameters as parameters;
 ghost use Rattle.pf_params.specs.Settled as settled;

@@ -1,7 +1,7 @@
 //! The names of settings with what they stand for.
 ghost use Rattle.std.specs.Prelude.{◌≡◌, ℕ, List as Seq, [], OnOk};
 ghost use Rattle.pf_catalogue.specs.Catalogue.{row_at};
-ghost use Rattle.pf_expand.specs.Contracts.Meanings.{AreNames};
+ghost use Rattle.pf_expand.specs.Clauses.Meanings.{AreNames};
 ghost use Rattle.pf_expand.specs.Names.{Source, with_source};
 ghost use Rattle.pf_params.specs.Presets as presets;
 ghost use Rattle.pf_params.specs.Sources.{source_of};

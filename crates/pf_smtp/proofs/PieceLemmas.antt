@@ -5,10 +5,10 @@ use Rattle.std.proofs.lemmas.List.Concat.{flat_map-append}
 use Rattle.std.proofs.Math.Seq.{take-append-add}
 use Rattle.pf_base.specs.Lines.{lines, rest, onto_line, unless_line}
 use Rattle.pf_base.proofs.LineEnds.{rest_of_none}
-use Rattle.pf_base.specs.Contracts.Objects.{joined}
+use Rattle.pf_base.specs.Clauses.Objects.{joined}
 use Rattle.pf_base.specs.declared.texts.Texts.{Texts}
-use Rattle.pf_smtp.specs.Contracts.Gathering.{AnswersLine, AnswersPiece, ComesDownTo, line_given}
-use Rattle.pf_smtp.specs.Contracts.Feeding.{given, part_behind, texts_of}
+use Rattle.pf_smtp.specs.Clauses.Gathering.{AnswersLine, AnswersPiece, ComesDownTo, line_given}
+use Rattle.pf_smtp.specs.Clauses.Feeding.{given, part_behind, texts_of}
 use Rattle.pf_smtp.specs.Session.{stays, before, steps, replies_text, records_text, log_text}
 use Rattle.pf_smtp.specs.Step.{Step}
 use Rattle.pf_smtp.specs.Text.{text_of, record_text, log_line}

@@ -6,9 +6,9 @@ use Rattle.pf_eval.specs.Judge.{end_of}
 use Rattle.pf_eval.specs.declared.policy.PlainEnd.TheVariants.{Accept, Deny}
 use Rattle.pf_eval.specs.declared.policy.PlainItem.TheVariants.{PermitMynetworks, RejectUnauthDestination}
 use Rattle.pf_smtp.specs.Command.{after_keyword, argument_of, verb_named, verb_of}
-use Rattle.pf_smtp.specs.Contracts.Gathering.{line_given}
+use Rattle.pf_smtp.specs.Clauses.Gathering.{line_given}
 use Rattle.pf_smtp.specs.Path.{address_of, bracketed, is_local_byte, is_local_part, path_of}
-use Rattle.pf_smtp.specs.Contracts.Feeding.{fresh, given, going_of, part_behind}
+use Rattle.pf_smtp.specs.Clauses.Feeding.{fresh, given, going_of, part_behind}
 use Rattle.pf_smtp.specs.Session.{before, log_text, records_text, replies_text, session, start, stays, steps}
 use Rattle.pf_smtp.specs.Step.{command, helo, judged, line_step, logs, mail, mail_address, mail_path, quit, rcpt, rcpt_address, rcpt_path, says, step}
 use Rattle.pf_smtp.specs.Text.{accepted_text, crlf, denied_text, greeting_of, helo_text, joined, line_text, log_line, mail_text, quit_text, rcpt_text}

@@ -3,9 +3,9 @@ use Rattle.std.proofs.Common.{◌≡◌, ℕ, ◌-◌, ◌<◌, ◌≤◌, true,
 use Rattle.std.proofs.lemmas.List.{take_all, length-take-le, take-take, take-append-le}
 use Rattle.std.proofs.lemmas.Bool.{lt-ltb, cases_lt}
 use Rattle.pf_base.specs.Lines.{lines, rest, onto_line, unless_line, without_return}
-use Rattle.pf_base.specs.Contracts.Causes.{counted}
+use Rattle.pf_base.specs.Clauses.Causes.{counted}
 use Rattle.pf_base.proofs.LineEnds.{lines-append, rest-append, rest_of_none}
-use Rattle.pf_smtp.specs.Contracts.Feeding.{given, part_behind}
+use Rattle.pf_smtp.specs.Clauses.Feeding.{given, part_behind}
 use Rattle.pf_smtp.specs.Session.{stays, before, steps}
 use Rattle.pf_smtp.specs.Step.{Step, says, step}
 use Rattle.pf_smtp.specs.declared.reply.LineReply.TheVariants.{TooLong}

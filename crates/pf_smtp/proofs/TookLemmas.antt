@@ -3,10 +3,10 @@ use Rattle.std.proofs.Common.{◌≡◌, ℕ, true, false, List, [], ◌++◌, t
 use Rattle.std.proofs.lemmas.Bool.{false≢true}
 use Rattle.pf_base.proofs.ToldLemmas.{appended_more, appended_none}
 use Rattle.pf_base.specs.Lines.{lines, rest, unless_line}
-use Rattle.pf_base.specs.Contracts.Objects.{Sinks, appended, joined}
+use Rattle.pf_base.specs.Clauses.Objects.{Sinks, appended, joined}
 use Rattle.pf_smtp.proofs.PieceLemmas.{given_over, texts-before}
 use Rattle.pf_smtp.proofs.StepLemmas.{behind, given-append, part_behind-append}
-use Rattle.pf_smtp.specs.Contracts.Feeding.{Took, fresh, given, part_behind, texts_given, texts_of}
+use Rattle.pf_smtp.specs.Clauses.Feeding.{Took, fresh, given, part_behind, texts_given, texts_of}
 use Rattle.pf_smtp.specs.Session.{before, stays, steps}
 use Rattle.pf_smtp.specs.declared.standing.Standing.{Standing}
 use Rattle.pf_smtp.specs.declared.state.Setup.{Setup}

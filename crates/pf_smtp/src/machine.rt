@@ -1,6 +1,6 @@
 //! The steps of a session: one function for each verb.
 ghost use Rattle.std.specs.Prelude.{◌≡◌, [], ◌∷◌, IfOk};
-ghost use Rattle.pf_smtp.specs.Contracts.Gives.{Gives};
+ghost use Rattle.pf_smtp.specs.Clauses.Gives.{Gives};
 ghost use Rattle.pf_smtp.specs.Step as step;
 
 use crate::command::{Verb, after_keyword, argument_of, verb_of};

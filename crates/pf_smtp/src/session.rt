@@ -1,8 +1,8 @@
 //! The session, as the layer above drives it.
 ghost use Rattle.std.specs.Prelude.{◌≡◌, true, false, IfErr, IfOk, OnErr, OnOk};
-ghost use Rattle.pf_base.specs.Contracts.Objects.{Says, StopsBy, out_text, sinks};
-ghost use Rattle.pf_base.specs.Contracts.Told.{Output};
-ghost use Rattle.pf_smtp.specs.Contracts.Feeding.{Took, fresh, going_of, texts_given};
+ghost use Rattle.pf_base.specs.Clauses.Objects.{Says, StopsBy, out_text, sinks};
+ghost use Rattle.pf_base.specs.Clauses.Told.{Output};
+ghost use Rattle.pf_smtp.specs.Clauses.Feeding.{Took, fresh, going_of, texts_given};
 ghost use Rattle.pf_smtp.specs.Text.{greeting_of};
 
 use crate::reply::print_greeting;
@@ -64,7 +64,7 @@ pub struct Session {
 }
 
 impl Model for Session {
-    ghost use Rattle.pf_smtp.specs.Contracts.Feeding.{Progress};
+    ghost use Rattle.pf_smtp.specs.Clauses.Feeding.{Progress};
 
     ghost Value = { Progress };
 

@@ -120,7 +120,7 @@ fn add_answer(
 }
 
 impl Standing {
-    ghost use Rattle.pf_smtp.specs.Contracts.Gathering.{AnswersLine, AnswersPiece};
+    ghost use Rattle.pf_smtp.specs.Clauses.Gathering.{AnswersLine, AnswersPiece};
 
     // Answers a line, whose last bytes these are, and has nothing of the next one.
     fn take_line(&mut self, alloc: Global, line: &[u8], texts: &mut Texts) -> Result<(), NoMemory>

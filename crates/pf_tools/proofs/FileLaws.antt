@@ -10,7 +10,7 @@ use Rattle.pf_base.specs.declared.refused.Cause.TheVariants.{C10, C15}
 use Rattle.pf_base.specs.declared.refused.Refused.{Refused}
 use Rattle.pf_tools.specs.Course.{bytes_in}
 use Rattle.pf_tools.specs.Printed.{◌>>=◌}
-use Rattle.pf_tools.specs.Contracts.Reports.{Answers}
+use Rattle.pf_tools.specs.Clauses.Reports.{Answers}
 use Rattle.pf_tools.specs.Said.{conf_text, file_refused}
 use Rattle.pf_tools.specs.declared.file.FileFault.{FileFault}
 use Rattle.pf_tools.specs.declared.file.FileFault.TheVariants as file_fault

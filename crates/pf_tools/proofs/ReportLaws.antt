@@ -2,14 +2,14 @@
 use Rattle.std.proofs.Common.{◌≡◌, ℕ, List, Some, Result, Ok, Err, inl, inr, refl, ap, ◌∙◌}
 use Rattle.std.specs.Option.{option_map}
 use Rattle.std.specs.Prelude.{◌⊎◌, OnErr}
-use Rattle.pf_base.specs.Contracts.Causes.{counted}
+use Rattle.pf_base.specs.Clauses.Causes.{counted}
 use Rattle.pf_base.specs.FileList.{with_file}
-use Rattle.pf_base.specs.Contracts.Told.{Tree, failed_tree, replaced}
+use Rattle.pf_base.specs.Clauses.Told.{Tree, failed_tree, replaced}
 use Rattle.pf_base.specs.declared.pair.Pair.{Pair}
 use Rattle.pf_base.specs.declared.refused.Refused.{Refused}
 use Rattle.pf_tools.specs.Course.{Kept, Leaves, Unfinished, conf_name, said_in}
 use Rattle.pf_tools.specs.Course.{Course as course}
-use Rattle.pf_tools.specs.Contracts.Reports.{Answers, IsEditReport, Reports, report_of}
+use Rattle.pf_tools.specs.Clauses.Reports.{Answers, IsEditReport, Reports, report_of}
 use Rattle.pf_tools.specs.declared.file.FileFault.{FileFault}
 use Rattle.pf_tools.specs.declared.file.FileFault.TheVariants as file_fault
 use Rattle.pf_tools.specs.declared.report.Report.{Report}

@@ -7,7 +7,7 @@ use Rattle.std.specs.Str.{bytes_eq}
 use Rattle.pf_base.specs.declared.refused.ConfFault.{ConfFault}
 use Rattle.pf_base.specs.declared.refused.Refused.{Refused}
 use Rattle.pf_maincf.proofs.LastSettings.{last_append}
-use Rattle.pf_maincf.specs.Contracts.Faults.{as_fault}
+use Rattle.pf_maincf.specs.Clauses.Faults.{as_fault}
 use Rattle.pf_maincf.specs.Settings.{Conf, last_setting}
 use Rattle.pf_maincf.specs.declared.setting.Setting.{Setting}
 use Rattle.pf_params.specs.Accepted.{accepted, refusal_in, unless_refused}

@@ -8,7 +8,7 @@ use Rattle.pf_expand.specs.Expansion.{Answer, Text, joined, length_limit, parts,
 use Rattle.pf_expand.specs.Forms.{first_part, form_of}
 use Rattle.pf_expand.specs.Names.{Source, depth_limit, domain_in, domain_of, name_value, past_dot, source_value}
 use Rattle.pf_expand.specs.Names.{Source as source}
-use Rattle.pf_maincf.specs.Contracts.Faults.{as_fault}
+use Rattle.pf_maincf.specs.Clauses.Faults.{as_fault}
 use Rattle.pf_params.specs.Settled as settled
 use Rattle.pf_params.specs.Settled.{Settled, or_refused, settled_source}
 use Rattle.pf_expand.specs.declared.flaw.Flaw.TheVariants.{TooLong}

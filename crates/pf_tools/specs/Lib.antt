@@ -1,5 +1,5 @@
 pub mod Asked
-pub mod Contracts
+pub mod Clauses
 pub mod Course
 pub mod Order
 pub mod Printed

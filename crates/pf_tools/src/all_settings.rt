@@ -2,9 +2,9 @@
 ghost use Rattle.std.specs.Prelude.{◌≡◌, IfOk, OnOk, map};
 ghost use Rattle.std.specs.List.{fold};
 ghost use Rattle.std.specs.Option.{option_copied, option_map};
-ghost use Rattle.pf_base.specs.Contracts.Unless.{Unless};
+ghost use Rattle.pf_base.specs.Clauses.Unless.{Unless};
 ghost use Rattle.pf_maincf.specs.Settings.{last_setting};
-ghost use Rattle.pf_maincf.specs.Contracts.Faults.{as_fault};
+ghost use Rattle.pf_maincf.specs.Clauses.Faults.{as_fault};
 ghost use Rattle.pf_params.specs.Accepted.{accepted};
 ghost use Rattle.pf_params.specs.Parameters as parameters;
 ghost use Rattle.pf_params.specs.Settled as settled;

@@ -1,11 +1,11 @@
 //! main.cf as a file.
 ghost use Rattle.std.specs.Prelude.{◌≡◌, ◌≢◌, List as Seq, Some, Err, true, false, IfOk};
 ghost use Rattle.std.specs.Str.{IsUtf8};
-ghost use Rattle.pf_base.specs.Contracts.Told.{failed_tree};
+ghost use Rattle.pf_base.specs.Clauses.Told.{failed_tree};
 ghost use Rattle.pf_base.specs.declared.pair.Pair.{Pair};
 ghost use Rattle.pf_tools.specs.Course as course;
 ghost use Rattle.pf_tools.specs.Course.{Kept, bytes_in};
-ghost use Rattle.pf_tools.specs.Contracts.Reports.{Answers};
+ghost use Rattle.pf_tools.specs.Clauses.Reports.{Answers};
 ghost use Rattle.pf_tools.specs.Said as spec;
 ghost use Rattle.pf_words.specs.Postconf.{is_edit, sets_parameters};
 

@@ -1,13 +1,13 @@
 //! What a run does to the files, and what it is to write.
 ghost use Rattle.std.specs.Prelude.{◌≡◌, ◌⊎◌, [], false, true, IfOk, OnErr};
 ghost use Rattle.std.specs.Str.{IsUtf8};
-ghost use Rattle.pf_base.specs.Contracts.Objects.{log_text};
+ghost use Rattle.pf_base.specs.Clauses.Objects.{log_text};
 ghost use Rattle.pf_base.specs.Refusal.{refusal_line};
 ghost use Rattle.pf_base.specs.declared.status.TheConstants.{FILES_FAILED, REFUSED};
 ghost use Rattle.pf_tools.specs.Course as spec;
 ghost use Rattle.pf_tools.specs.Course.{Course as course};
 ghost use Rattle.pf_tools.specs.Course.{Leaves, Unfinished};
-ghost use Rattle.pf_tools.specs.Contracts.Reports.{IsEditReport, Reports};
+ghost use Rattle.pf_tools.specs.Clauses.Reports.{IsEditReport, Reports};
 ghost use Rattle.pf_words.specs.Postconf.{is_edit, sets_parameters};
 
 use crate::file::{FileFault, conf_name, failed_line, file_said};

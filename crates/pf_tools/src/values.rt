@@ -2,8 +2,8 @@
 ghost use Rattle.std.specs.Prelude.{◌≡◌, ◌==◌, ◌≢◌, ◌∷◌, codes, IfOk};
 ghost use Rattle.std.specs.List.{position};
 ghost use Rattle.std.specs.Option.{option_copied, option_map_or};
-ghost use Rattle.pf_base.specs.Contracts.Unless.{Unless};
-ghost use Rattle.pf_maincf.specs.Contracts.Faults.{as_fault};
+ghost use Rattle.pf_base.specs.Clauses.Unless.{Unless};
+ghost use Rattle.pf_maincf.specs.Clauses.Faults.{as_fault};
 ghost use Rattle.pf_expand.specs.Names as names;
 ghost use Rattle.pf_expand.specs.Names.{Source as source};
 ghost use Rattle.pf_params.specs.Presets.{preset_of};

@@ -5,8 +5,8 @@ use Rattle.std.specs.List.{flat_map}
 use Rattle.std.specs.Prelude.{⊤}
 use Rattle.pf_base.proofs.StatusLemmas.{counts_same, kept_causes, none_stopped, said_causes, said_record, starved_causes, stops_causes, stops_record}
 use Rattle.pf_base.proofs.ToldLemmas.{append_known-nil}
-use Rattle.pf_base.specs.Contracts.Causes.{counted}
-use Rattle.pf_base.specs.Contracts.Objects.{Objects, Streams, log_text, out_text, sink_status, status_of}
+use Rattle.pf_base.specs.Clauses.Causes.{counted}
+use Rattle.pf_base.specs.Clauses.Objects.{Objects, Streams, log_text, out_text, sink_status, status_of}
 use Rattle.pf_base.specs.Statuses.{HasCauses, NoneRose, counts_of, is_among}
 use Rattle.pf_base.specs.declared.pair.Pair.{Pair}
 use Rattle.pf_base.specs.declared.refused.Refused.{Refused}

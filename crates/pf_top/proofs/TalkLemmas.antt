@@ -4,14 +4,14 @@ use Rattle.std.proofs.Math.Path.{fun_ext}
 use Rattle.std.specs.Io.KnownBytes.{IsAtEnd}
 use Rattle.pf_base.proofs.ToldLemmas.{appended_more, takes_more, takes_none}
 use Rattle.pf_base.specs.Lines.{lines}
-use Rattle.pf_base.specs.Contracts.Objects.{Streams, appended, joined, out_text}
-use Rattle.pf_base.specs.Contracts.Told.{Takes, failed_input}
+use Rattle.pf_base.specs.Clauses.Objects.{Streams, appended, joined, out_text}
+use Rattle.pf_base.specs.Clauses.Told.{Takes, failed_input}
 use Rattle.pf_base.specs.declared.texts.SinkFault.{SinkFault}
 use Rattle.pf_base.specs.declared.texts.Texts.{Texts}
 use Rattle.pf_smtp.proofs.PieceLemmas.{joined_assoc}
 use Rattle.pf_smtp.proofs.StepLemmas.{onto_line_nothing}
 use Rattle.pf_smtp.proofs.TookLemmas.{texts_more, took_more, took_none}
-use Rattle.pf_smtp.specs.Contracts.Feeding.{fresh, given, texts_given, texts_of}
+use Rattle.pf_smtp.specs.Clauses.Feeding.{fresh, given, texts_given, texts_of}
 use Rattle.pf_smtp.specs.Session.{session, start, steps}
 use Rattle.pf_smtp.specs.Step.{Step}
 use Rattle.pf_smtp.specs.Text.{greeting_of}
@@ -19,7 +19,7 @@ use Rattle.pf_smtp.specs.declared.session.Going.TheVariants.{More, Over}
 use Rattle.pf_smtp.specs.declared.standing.Standing.{Standing}
 use Rattle.pf_smtp.specs.declared.state.Setup.{Setup}
 use Rattle.pf_top.specs.Talk.{EndsAs, HasSession, Speech, Talked, Talks, TalksCut, TalksShort, TalksUntil, speech_of}
-use Rattle.pf_top.specs.Contracts.Turns.{IsTurn, Passed, Stops, speech_from}
+use Rattle.pf_top.specs.Clauses.Turns.{IsTurn, Passed, Stops, speech_from}
 use Rattle.pf_top.specs.declared.talk.Ended.{Ended}
 use Rattle.pf_top.specs.declared.talk.Ended.TheVariants as ended
 use Rattle.pf_top.specs.declared.talk.TalkFault.{TalkFault}

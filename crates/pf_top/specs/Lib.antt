@@ -1,4 +1,4 @@
-pub mod Contracts
+pub mod Clauses
 pub mod Nets
 pub mod Opening
 pub mod Profile

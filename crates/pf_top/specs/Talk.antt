@@ -2,11 +2,11 @@
 -- postgate's own.
 use Rattle.std.specs.Prelude.{◌≡◌, ◌⊎◌, ℕ, ◌+◌, ◌<◌, ◌≤◌, ◌++◌, Bool, true, false, List, Result, Ok, Err, length}
 use Rattle.std.specs.Io.KnownBytes.{IsAtEnd}
-use Rattle.pf_base.specs.Contracts.Objects.{Streams, StopsBy, appended, joined, out_text}
-use Rattle.pf_base.specs.Contracts.Told.{Takes, failed_input}
+use Rattle.pf_base.specs.Clauses.Objects.{Streams, StopsBy, appended, joined, out_text}
+use Rattle.pf_base.specs.Clauses.Told.{Takes, failed_input}
 use Rattle.pf_base.specs.declared.texts.SinkFault.{SinkFault}
 use Rattle.pf_base.specs.declared.texts.Texts.{Texts}
-use Rattle.pf_smtp.specs.Contracts.Feeding.{texts_of}
+use Rattle.pf_smtp.specs.Clauses.Feeding.{texts_of}
 use Rattle.pf_smtp.specs.Session.{session}
 use Rattle.pf_smtp.specs.Text.{greeting_of}
 use Rattle.pf_smtp.specs.declared.state.Setup.{Setup}

@@ -1,8 +1,8 @@
 //! What main.cf says, where it is accepted.
 ghost use Rattle.std.specs.Prelude.{◌≡◌, [], IfOk, codes};
 ghost use Rattle.std.specs.Option.{unwrap_or};
-ghost use Rattle.pf_base.specs.Contracts.Unless.{Unless};
-ghost use Rattle.pf_maincf.specs.Contracts.Faults.{as_fault};
+ghost use Rattle.pf_base.specs.Clauses.Unless.{Unless};
+ghost use Rattle.pf_maincf.specs.Clauses.Faults.{as_fault};
 ghost use Rattle.pf_params.specs.Parameters as parameters;
 ghost use Rattle.pf_top.specs.Opening as opening;
 ghost use Rattle.pf_top.specs.Refusals as refusals;

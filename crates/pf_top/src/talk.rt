@@ -1,10 +1,10 @@
 //! A session over the input, from the greeting to its end.
 ghost use Rattle.std.specs.Prelude.{◌≡◌, ◌<◌, true, length};
-ghost use Rattle.pf_base.specs.Contracts.Objects.{sinks, streams};
-ghost use Rattle.pf_smtp.specs.Contracts.Feeding.{fresh};
+ghost use Rattle.pf_base.specs.Clauses.Objects.{sinks, streams};
+ghost use Rattle.pf_smtp.specs.Clauses.Feeding.{fresh};
 ghost use Rattle.pf_top.specs.Opening.{setup_of};
 ghost use Rattle.pf_top.specs.Talk.{HasSession, Talked};
-ghost use Rattle.pf_top.specs.Contracts.Turns.{IsTurn, speech_from};
+ghost use Rattle.pf_top.specs.Clauses.Turns.{IsTurn, speech_from};
 
 use crate::opening::Opening;
 use pf_base::{Sink, SinkFault, Source};

@@ -3,7 +3,7 @@ ghost use Rattle.std.specs.Prelude.{◌≡◌, IfOk, map, option_map};
 ghost use Rattle.std.specs.String.{string_bytes};
 ghost use Rattle.pf_words.specs.Commands as commands;
 ghost use Rattle.pf_words.specs.Found.{rows_found};
-ghost use Rattle.pf_words.specs.Contracts.OptionsMeant.{options_meant};
+ghost use Rattle.pf_words.specs.Clauses.OptionsMeant.{options_meant};
 ghost use Rattle.pf_words.specs.Smtpd as smtpd;
 
 use crate::address::ipv4_of;

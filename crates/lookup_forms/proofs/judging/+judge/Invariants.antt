@@ -1,5 +1,5 @@
 use Rattle.std.proofs.Common.{◌+◌, ◌*◌, drop}
-use Rattle.pf_asks.specs.Contracts.Led.{Led, world}
+use Rattle.pf_asks.specs.Clauses.Led.{Led, world}
 use Rattle.lookup_forms.specs.Restrictions as spec
 use Rattle.lookup_forms.proofs.judging.+judge.Given as goal
 

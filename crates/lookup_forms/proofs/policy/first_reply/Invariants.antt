@@ -1,5 +1,5 @@
 use Rattle.std.proofs.Common.{◌-◌}
-use Rattle.pf_asks.specs.Contracts.Led.{LinksLed}
+use Rattle.pf_asks.specs.Clauses.Led.{LinksLed}
 use Rattle.lookup_forms.specs.Policy.{first_reply}
 use Rattle.lookup_forms.proofs.policy.first_reply.Given as goal
 

@@ -1,9 +1,9 @@
 use Rattle.std.proofs.Common.{◌≡◌, ◌+◌, ◌-◌, length}
-use Rattle.pf_asks.specs.Contracts.Held.{Held}
+use Rattle.pf_asks.specs.Clauses.Held.{Held}
 use Rattle.pf_asks.specs.Wire.{Wire}
 use Rattle.std.specs.Prelude.{ℕ, List}
 use Rattle.lookup_forms.specs.Policy.{reply_limit}
-use Rattle.lookup_forms.specs.Contracts.Trying.{HasRead}
+use Rattle.lookup_forms.specs.Clauses.Trying.{HasRead}
 use Rattle.lookup_forms.proofs.policy.read_reply.Given as goal
 
 -- the text was read of the open try, and no call failed

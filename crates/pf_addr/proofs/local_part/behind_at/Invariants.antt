@@ -1,5 +1,5 @@
 use Rattle.std.proofs.Common.{◌≡◌, ◌≤◌, length, take}
-use Rattle.pf_addr.specs.Contracts.Reading as reading
+use Rattle.pf_addr.specs.Clauses.Reading as reading
 use Rattle.pf_addr.proofs.local_part.behind_at.Given as goal
 
 abbrev pub invariant-loop-end : goal.invariant-loop-end

@@ -1,6 +1,6 @@
 use Rattle.std.proofs.Common.{◌≡◌, ◌+◌, drop, false}
 use Rattle.std.specs.Option.{option_map}
-use Rattle.pf_addr.specs.Contracts.Reading as reading
+use Rattle.pf_addr.specs.Clauses.Reading as reading
 use Rattle.pf_addr.proofs.quoted.closing_quote.Given as goal
 
 abbrev pub invariant-loop-i : goal.invariant-loop-i

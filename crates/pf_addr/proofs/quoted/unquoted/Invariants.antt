@@ -1,5 +1,5 @@
 use Rattle.std.proofs.Common.{◌≡◌, ◌++◌, drop, false}
-use Rattle.pf_addr.specs.Contracts.Reading as reading
+use Rattle.pf_addr.specs.Clauses.Reading as reading
 use Rattle.pf_addr.proofs.quoted.unquoted.Given as goal
 
 abbrev pub invariant-loop-b : goal.invariant-loop-b

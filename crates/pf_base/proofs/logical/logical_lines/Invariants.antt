@@ -1,7 +1,7 @@
 use Rattle.std.proofs.Common.{◌≡◌, ◌+◌, ◌≤◌, ◌++◌, ◌∷◌, [], length}
 use Rattle.pf_base.specs.Lines.{lines, rest}
 use Rattle.pf_base.specs.Logical.{physical_lines, numbered, grouped}
-use Rattle.pf_base.specs.Contracts.Gathering.{IsBegun, then_grouped}
+use Rattle.pf_base.specs.Clauses.Gathering.{IsBegun, then_grouped}
 use Rattle.pf_base.proofs.logical.logical_lines.Given as goal
 
 abbrev pub invariant-lines : goal.invariant-lines

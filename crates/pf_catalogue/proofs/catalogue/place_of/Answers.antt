@@ -3,7 +3,7 @@ use Rattle.std.specs.List.{position}
 use Rattle.std.specs.Option.{IfSome}
 use Rattle.std.specs.Str.{bytes_eq}
 use Rattle.pf_catalogue.proofs.TableLaws.{position_mapped, position_within}
-use Rattle.pf_catalogue.specs.Contracts.RowsMeant.{row_meant}
+use Rattle.pf_catalogue.specs.Clauses.RowsMeant.{row_meant}
 use Rattle.pf_catalogue.proofs.catalogue.place_of.Goals as goal
 
 pub returns-clause-place : goal.returns-clause-place

@@ -1,6 +1,6 @@
 use Rattle.std.proofs.Common.{◌+◌, drop, subst, arith}
 use Rattle.pf_catalogue.proofs.AddingLemmas.{added_more, drop_item}
-use Rattle.pf_catalogue.specs.Contracts.Adding.{AddsUpTo}
+use Rattle.pf_catalogue.specs.Clauses.Adding.{AddsUpTo}
 use Rattle.pf_catalogue.proofs.tables.add_all.Goals as goal
 
 pub loop-item-preserved : goal.loop-item-preserved

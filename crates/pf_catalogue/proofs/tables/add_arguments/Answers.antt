@@ -1,6 +1,6 @@
 use Rattle.std.proofs.Common.{◌+◌, drop, subst, arith}
 use Rattle.pf_catalogue.proofs.AddingLemmas.{added_more, drop_item}
-use Rattle.pf_catalogue.specs.Contracts.Adding.{AddsUpTo}
+use Rattle.pf_catalogue.specs.Clauses.Adding.{AddsUpTo}
 use Rattle.pf_catalogue.specs.Tables.{table_arguments}
 use Rattle.pf_catalogue.specs.declared.arguments.Argument.TheVariants.{Nothing}
 use Rattle.pf_catalogue.proofs.tables.add_arguments.Goals as goal

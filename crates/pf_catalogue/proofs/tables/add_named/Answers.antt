@@ -1,6 +1,6 @@
 use Rattle.std.proofs.Common.{◌+◌, drop, subst, sym, arith}
 use Rattle.pf_catalogue.proofs.AddingLemmas.{added_more, drop_item}
-use Rattle.pf_catalogue.specs.Contracts.Adding.{AddsUpTo}
+use Rattle.pf_catalogue.specs.Clauses.Adding.{AddsUpTo}
 use Rattle.pf_catalogue.specs.Tables.{tables_named}
 use Rattle.pf_catalogue.proofs.tables.add_named.Goals as goal
 use Rattle.pf_catalogue.proofs.tables.add_named.Goals.{in-Some+in_ok-add, in_default}

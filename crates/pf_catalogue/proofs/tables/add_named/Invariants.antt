@@ -1,5 +1,5 @@
 use Rattle.std.proofs.Common.{drop}
-use Rattle.pf_catalogue.specs.Contracts.Adding.{AddsUpTo}
+use Rattle.pf_catalogue.specs.Clauses.Adding.{AddsUpTo}
 use Rattle.pf_catalogue.specs.Tables.{tables_named}
 use Rattle.pf_catalogue.proofs.tables.add_named.Given as goal
 

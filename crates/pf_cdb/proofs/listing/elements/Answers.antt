@@ -1,5 +1,5 @@
 use Rattle.std.proofs.Common.{◌≡◌, ◌∙◌, arith}
-use Rattle.pf_cdb.specs.Contracts.Listed.{held_places}
+use Rattle.pf_cdb.specs.Clauses.Listed.{held_places}
 use Rattle.pf_cdb.proofs.ListLaws.{listed_lies, listed_pairs}
 use Rattle.pf_cdb.proofs.listing.elements.Goals as goal
 

@@ -1,7 +1,7 @@
 use Rattle.std.proofs.Common.{◌≡◌, ◌++◌, ap, ◌∙◌, sym, subst, eqb, arith}
 use Rattle.std.specs.List.{flat_map, range_with_len}
 use Rattle.std.proofs.lemmas.List.Filters.{dedup_is}
-use Rattle.pf_cdb.specs.Contracts.Listed.{held_in}
+use Rattle.pf_cdb.specs.Clauses.Listed.{held_in}
 use Rattle.pf_cdb.proofs.ListLaws.{held_listed, tables_more}
 use Rattle.pf_cdb.proofs.listing.held_places.Goals as goal
 

@@ -1,5 +1,5 @@
 use Rattle.std.proofs.Common.{◌≡◌, ◌<◌, ℕ, true}
-use Rattle.pf_cdb.specs.Contracts.Gathered.{step_slot}
+use Rattle.pf_cdb.specs.Clauses.Gathered.{step_slot}
 use Rattle.pf_cdb.specs.Held.{is_used}
 use Rattle.pf_cdb.proofs.placing.place.Given as goal
 

@@ -1,5 +1,5 @@
 use Rattle.std.proofs.Common.{◌≡◌, ◌+◌, ◌≤◌, ◌++◌, drop}
-use Rattle.pf_cdb.specs.Contracts.Gathered.{slot_lists}
+use Rattle.pf_cdb.specs.Clauses.Gathered.{slot_lists}
 use Rattle.pf_cdb.specs.Written.{header_bytes, tables_size}
 use Rattle.pf_cdb.proofs.writing.add_header.Given as goal
 

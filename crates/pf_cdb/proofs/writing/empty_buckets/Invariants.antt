@@ -1,5 +1,5 @@
 use Rattle.std.proofs.Common.{◌≡◌, [], replicate}
-use Rattle.pf_cdb.specs.Contracts.Gathered.{slot_lists}
+use Rattle.pf_cdb.specs.Clauses.Gathered.{slot_lists}
 use Rattle.pf_cdb.proofs.writing.empty_buckets.Given as goal
 
 abbrev pub invariant-loop : goal.invariant-loop

@@ -1,7 +1,7 @@
 use Rattle.std.proofs.Common.{◌≡◌, Err, length, map, ap, ◌∙◌, arith}
 use Rattle.std.proofs.lemmas.Result.{err_from_is_err_and}
 use Rattle.pf_cdb.proofs.FileLaws.{length_written, written_is}
-use Rattle.pf_cdb.specs.Contracts.Gathered.{slot_lists}
+use Rattle.pf_cdb.specs.Clauses.Gathered.{slot_lists}
 use Rattle.pf_cdb.specs.Written.{filled, tables_of, tables_size, written}
 use Rattle.pf_cdb.specs.declared.writing.WriteFault.TheVariants.{TooLarge}
 use Rattle.pf_cdb.proofs.writing.file_of.Goals as goal

@@ -1,5 +1,5 @@
 use Rattle.std.proofs.Common.{◌≡◌, map, take}
-use Rattle.pf_cdb.specs.Contracts.Gathered.{slot_lists}
+use Rattle.pf_cdb.specs.Clauses.Gathered.{slot_lists}
 use Rattle.pf_cdb.specs.Written.{filled}
 use Rattle.pf_cdb.proofs.writing.fill_tables.Given as goal
 

@@ -3,7 +3,7 @@ use Rattle.std.specs.List.{sum_by}
 use Rattle.std.proofs.lemmas.List.{length-map}
 use Rattle.std.proofs.lemmas.List.Sums.{sum_by_more}
 use Rattle.pf_cdb.proofs.BucketLaws.{by_table_none, length_by_table, placed_more}
-use Rattle.pf_cdb.specs.Contracts.Gathered.{with_slot}
+use Rattle.pf_cdb.specs.Clauses.Gathered.{with_slot}
 use Rattle.pf_cdb.specs.Hash.{hash_of}
 use Rattle.pf_cdb.specs.Written.{placed, record_size}
 use Rattle.pf_cdb.specs.declared.layout.Slot.{Slot}

@@ -1,6 +1,6 @@
 use Rattle.std.proofs.Common.{◌≡◌, ◌+◌, ◌≤◌, take}
 use Rattle.std.specs.List.{sum_by}
-use Rattle.pf_cdb.specs.Contracts.Gathered.{slot_lists}
+use Rattle.pf_cdb.specs.Clauses.Gathered.{slot_lists}
 use Rattle.pf_cdb.specs.Written.{by_table, placed, record_size}
 use Rattle.pf_cdb.proofs.writing.sort_slots.Given as goal
 

@@ -1,5 +1,5 @@
 use Rattle.std.proofs.Common.{◌≡◌, subst}
-use Rattle.pf_base.specs.Contracts.Unless.{Unless}
+use Rattle.pf_base.specs.Clauses.Unless.{Unless}
 use Rattle.pf_cdb.proofs.OutcomeLaws.{unless_written}
 use Rattle.pf_cdb.specs.Written.{written_file}
 use Rattle.pf_cdb.specs.declared.writing.WriteFault.TheVariants.{NoMemory}

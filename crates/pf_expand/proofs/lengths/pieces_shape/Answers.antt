@@ -1,7 +1,7 @@
 use Rattle.std.proofs.Common.{refl, ap, ◌∙◌, arith}
 use Rattle.pf_expand.proofs.LengthLaws.{depth_more, drop_item, run_alone, run_more, shape_nothing}
-use Rattle.pf_expand.specs.Contracts.Levels.{shape_named}
-use Rattle.pf_expand.specs.Contracts.Shapes.{added, joined}
+use Rattle.pf_expand.specs.Clauses.Levels.{shape_named}
+use Rattle.pf_expand.specs.Clauses.Shapes.{added, joined}
 use Rattle.pf_expand.specs.declared.run.Mode.TheVariants.{Counts}
 use Rattle.pf_expand.proofs.lengths.pieces_shape.Goals as goal
 

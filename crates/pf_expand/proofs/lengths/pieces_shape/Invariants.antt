@@ -1,7 +1,7 @@
 use Rattle.std.proofs.Common.{◌≡◌, ◌≤◌, drop}
-use Rattle.pf_expand.specs.Contracts.Levels as levels
-use Rattle.pf_expand.specs.Contracts.RunsMeant.{depth_of}
-use Rattle.pf_expand.specs.Contracts.Shapes as shapes
+use Rattle.pf_expand.specs.Clauses.Levels as levels
+use Rattle.pf_expand.specs.Clauses.RunsMeant.{depth_of}
+use Rattle.pf_expand.specs.Clauses.Shapes as shapes
 use Rattle.pf_expand.specs.declared.run.Mode.TheVariants.{Counts}
 use Rattle.pf_expand.specs.declared.shape.Shape.TheVariants.{Long}
 use Rattle.pf_expand.proofs.lengths.pieces_shape.Given as goal

@@ -1,7 +1,7 @@
 use Rattle.std.proofs.Common.{◌≡◌, ◌++◌}
 use Rattle.std.specs.Option.{option_map}
-use Rattle.pf_expand.specs.Contracts.Parting.{gives, weighs}
-use Rattle.pf_expand.specs.Contracts.Tokens as spec
+use Rattle.pf_expand.specs.Clauses.Parting.{gives, weighs}
+use Rattle.pf_expand.specs.Clauses.Tokens as spec
 use Rattle.pf_expand.proofs.parse.tokens_of.Given as goal
 
 abbrev pub invariant-parts : goal.invariant-parts

@@ -1,7 +1,7 @@
 use Rattle.std.proofs.Common.{sym, ◌∙◌}
 use Rattle.pf_expand.proofs.LevelLaws.{level_limit}
 use Rattle.pf_expand.proofs.RoundLaws.{flawed_there}
-use Rattle.pf_expand.specs.Contracts.Meanings.{level_value}
+use Rattle.pf_expand.specs.Clauses.Meanings.{level_value}
 use Rattle.pf_expand.proofs.rounds.domain_shape.Goals as goal
 
 pub returns-in-Flawed : goal.returns-in-Flawed

@@ -1,7 +1,7 @@
 use Rattle.std.proofs.Common.{◌≡◌, ◌+◌, map, take}
 use Rattle.std.specs.Map.{keys_of}
-use Rattle.pf_expand.specs.Contracts.Meanings.{level_value}
-use Rattle.pf_expand.specs.Contracts.Shapes.{shape_of}
+use Rattle.pf_expand.specs.Clauses.Meanings.{level_value}
+use Rattle.pf_expand.specs.Clauses.Shapes.{shape_of}
 use Rattle.pf_expand.proofs.rounds.next_named.Given as goal
 
 abbrev pub invariant-loop-place : goal.invariant-loop-place

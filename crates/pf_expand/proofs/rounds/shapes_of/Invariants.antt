@@ -1,5 +1,5 @@
 use Rattle.std.proofs.Common.{◌≤◌, ◌-◌}
-use Rattle.pf_expand.specs.Contracts.Levels.{AreShapes}
+use Rattle.pf_expand.specs.Clauses.Levels.{AreShapes}
 use Rattle.pf_expand.proofs.rounds.shapes_of.Given as goal
 
 abbrev pub invariant-loop-shapes : goal.invariant-loop-shapes

@@ -2,7 +2,7 @@ use Rattle.std.proofs.Common.{Ok, ◌+◌, sym, ap, ◌∙◌}
 use Rattle.pf_expand.proofs.LevelLaws.{level_limit}
 use Rattle.pf_expand.proofs.RoundLaws.{long_there}
 use Rattle.pf_expand.proofs.ValueLaws.{flawed_limit, long_limit}
-use Rattle.pf_expand.specs.Contracts.Meanings.{level_value}
+use Rattle.pf_expand.specs.Clauses.Meanings.{level_value}
 use Rattle.pf_expand.proofs.values.named_value.Goals as goal
 
 pub returns-in-Flawed : goal.returns-in-Flawed

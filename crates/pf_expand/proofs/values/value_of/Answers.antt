@@ -1,8 +1,8 @@
 use Rattle.std.proofs.Common.{Ok, sym, ap, ◌∙◌}
 use Rattle.pf_expand.proofs.RoundLaws.{long_there}
 use Rattle.pf_expand.proofs.ValueLaws.{flawed_limit, long_limit, pieces_run, value_of_bad, value_of_tokens}
-use Rattle.pf_expand.specs.Contracts.Meanings.{level_value}
-use Rattle.pf_expand.specs.Contracts.Runs.{run}
+use Rattle.pf_expand.specs.Clauses.Meanings.{level_value}
+use Rattle.pf_expand.specs.Clauses.Runs.{run}
 use Rattle.pf_expand.specs.declared.run.Mode.TheVariants.{Counts}
 use Rattle.pf_expand.proofs.values.value_of.Goals as goal
 

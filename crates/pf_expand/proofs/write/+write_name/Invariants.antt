@@ -1,7 +1,7 @@
 use Rattle.std.proofs.Common.{◌≡◌, ◌≤◌, ◌+◌, ◌*◌, ◌++◌, true, is_ok, drop}
-use Rattle.pf_expand.specs.Contracts.Meanings.{content, level_value}
-use Rattle.pf_expand.specs.Contracts.Runs.{run}
-use Rattle.pf_expand.specs.Contracts.RunsMeant.{depth_of}
+use Rattle.pf_expand.specs.Clauses.Meanings.{content, level_value}
+use Rattle.pf_expand.specs.Clauses.Runs.{run}
+use Rattle.pf_expand.specs.Clauses.RunsMeant.{depth_of}
 use Rattle.pf_expand.specs.declared.run.Mode.TheVariants.{Counts}
 use Rattle.pf_expand.proofs.write.+write_name.Given as goal
 

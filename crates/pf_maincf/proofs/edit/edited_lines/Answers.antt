@@ -2,7 +2,7 @@ use Rattle.std.proofs.Common.{◌+◌, ◌++◌, ◌∷◌, [], length, sym, ap,
 use Rattle.std.specs.Option.{option_copied}
 use Rattle.pf_maincf.proofs.BlockLemmas.{left_last, left_more}
 use Rattle.pf_maincf.specs.Edit.{Line, blocks_from, lines_in}
-use Rattle.pf_maincf.specs.Contracts.Editing.{blocks_left, line_left, set_from}
+use Rattle.pf_maincf.specs.Clauses.Editing.{blocks_left, line_left, set_from}
 use Rattle.pf_maincf.proofs.edit.edited_lines.Goals as goal
 
 pub returns-in-None : goal.returns-in-None

@@ -1,7 +1,7 @@
 use Rattle.std.proofs.Common.{◌≡◌, ◌+◌, ◌≤◌, ◌++◌, length}
 use Rattle.std.specs.Option.{option_copied}
 use Rattle.pf_maincf.specs.Edit.{blocks_from, edited_lines, lines_in}
-use Rattle.pf_maincf.specs.Contracts.Editing.{blocks_left}
+use Rattle.pf_maincf.specs.Clauses.Editing.{blocks_left}
 use Rattle.pf_maincf.proofs.edit.edited_lines.Given as goal
 
 abbrev pub invariant-lines : goal.invariant-lines

@@ -1,5 +1,5 @@
 use Rattle.std.proofs.Common.{ℕ, List, take}
-use Rattle.pf_expand.specs.Contracts.Meanings.{AreNames}
+use Rattle.pf_expand.specs.Clauses.Meanings.{AreNames}
 use Rattle.pf_expand.specs.Names.{Source}
 use Rattle.pf_params.specs.Sources.{source_of}
 use Rattle.pf_params.proofs.table.set_names.Given as goal

@@ -1,6 +1,6 @@
 use Rattle.std.proofs.Common.{◌≤◌, [], drop}
 use Rattle.pf_catalogue.specs.Catalogue.{catalogue}
-use Rattle.pf_expand.specs.Contracts.Meanings.{AreNames}
+use Rattle.pf_expand.specs.Clauses.Meanings.{AreNames}
 use Rattle.pf_expand.specs.Names.{Source as source}
 use Rattle.pf_params.specs.Presets.{preset_among}
 use Rattle.pf_params.proofs.table.set_presets.Given as goal

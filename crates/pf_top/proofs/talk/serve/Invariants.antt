@@ -1,6 +1,6 @@
 use Rattle.std.proofs.Common.{◌≡◌, ◌≤◌, ◌-◌, true, false}
-use Rattle.pf_base.specs.Contracts.Objects.{sinks, streams}
-use Rattle.pf_top.specs.Contracts.Turns.{Passed}
+use Rattle.pf_base.specs.Clauses.Objects.{sinks, streams}
+use Rattle.pf_top.specs.Clauses.Turns.{Passed}
 use Rattle.pf_top.proofs.talk.serve.Given as goal
 
 abbrev pub invariant-turns : goal.invariant-turns

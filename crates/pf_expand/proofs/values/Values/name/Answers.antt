@@ -1,7 +1,7 @@
 use Rattle.std.proofs.Common.{◌+◌, ap, ◌∙◌}
 use Rattle.std.proofs.lemmas.Result.{IfOk-weaker}
 use Rattle.pf_expand.proofs.SourceLaws.{name_kept}
-use Rattle.pf_expand.specs.Contracts.Meanings.{level_value}
+use Rattle.pf_expand.specs.Clauses.Meanings.{level_value}
 use Rattle.pf_expand.proofs.values.Values.name.Goals as goal
 
 pub returns : goal.returns

@@ -1,5 +1,5 @@
 use Rattle.std.proofs.Common.{length}
-use Rattle.pf_smtp.specs.Contracts.Gathering.{ComesDownTo}
+use Rattle.pf_smtp.specs.Clauses.Gathering.{ComesDownTo}
 use Rattle.pf_smtp.proofs.standing.Standing.take_piece.Given as goal
 
 abbrev pub invariant-lines : goal.invariant-lines

@@ -1,7 +1,7 @@
 -- What is known of values before they are written: their lengths, or why there are none. Words of the code's contracts.
 use Rattle.std.specs.Prelude.{ℕ, ◌+◌, ◌==◌, nat_lt, List, [], ◌∷◌, Ok, Err, length, if◌then◌else◌}
 use Rattle.pf_expand.specs.Expansion.{Answer, first_flaw, length_limit}
-use Rattle.pf_expand.specs.Contracts.Runs.{behind, choice_name}
+use Rattle.pf_expand.specs.Clauses.Runs.{behind, choice_name}
 use Rattle.pf_expand.specs.declared.flaw.Flaw.TheVariants.{TooLong}
 use Rattle.pf_expand.specs.declared.run.Mode.{Mode}
 use Rattle.pf_expand.specs.declared.run.Mode.TheVariants.{Counts, ToOtherwise, ToEnd}

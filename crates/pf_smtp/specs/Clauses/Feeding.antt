@@ -2,7 +2,7 @@
 -- the session itself is the definition over its whole input.
 use Rattle.std.specs.Prelude.{◌≡◌, ℕ, ◌+◌, ◌++◌, Bool, false, List, [], take, if◌then◌else◌}
 use Rattle.pf_base.specs.Lines.{lines, rest, onto_line, unless_line}
-use Rattle.pf_base.specs.Contracts.Objects.{Sinks, appended}
+use Rattle.pf_base.specs.Clauses.Objects.{Sinks, appended}
 use Rattle.pf_base.specs.declared.texts.Texts.{Texts}
 use Rattle.pf_smtp.specs.Session.{start, steps, replies_text, records_text, log_text}
 use Rattle.pf_smtp.specs.Step.{Step, line_limit}

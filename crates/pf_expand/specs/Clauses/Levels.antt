@@ -1,7 +1,7 @@
 -- The shapes of names' values, as the code keeps them. Words of the code's contracts.
 use Rattle.std.specs.Prelude.{◌≡◌, ℕ, List, Option, None, Some, get_or}
-use Rattle.pf_expand.specs.Contracts.Meanings.{level_value, place_in}
-use Rattle.pf_expand.specs.Contracts.Shapes.{behind_choice, shape_of}
+use Rattle.pf_expand.specs.Clauses.Meanings.{level_value, place_in}
+use Rattle.pf_expand.specs.Clauses.Shapes.{behind_choice, shape_of}
 use Rattle.pf_expand.specs.declared.lengths.Shapes.{Shapes}
 use Rattle.pf_expand.specs.declared.names.Meaning.{Meaning}
 use Rattle.pf_expand.specs.declared.run.Mode.{Mode}

@@ -2,7 +2,7 @@
 use Rattle.std.specs.Prelude.{◌≡◌, ◌<◌, ℕ, ◌+◌, ◌*◌, ◌++◌, Bool, true, List, [], ◌∷◌, Option, None, Some, length, if◌then◌else◌}
 use Rattle.std.specs.List.{fold, sum_by}
 use Rattle.std.specs.Option.{option_and_then, option_map}
-use Rattle.pf_expand.specs.Contracts.Tokens.{tokens_of}
+use Rattle.pf_expand.specs.Clauses.Tokens.{tokens_of}
 use Rattle.pf_expand.specs.declared.parse.Left.{Left}
 use Rattle.pf_expand.specs.declared.parse.Left.TheVariants as left
 use Rattle.pf_expand.specs.declared.token.Token.{Token}

@@ -8,8 +8,8 @@ use Rattle.std.specs.Str.{bytes_eq}
 use Rattle.pf_expand.specs.Expansion.{Answer, within_limit}
 use Rattle.pf_expand.specs.Names.{Source, domain_of}
 use Rattle.pf_expand.specs.Names.{Source as source}
-use Rattle.pf_expand.specs.Contracts.Runs.{run}
-use Rattle.pf_expand.specs.Contracts.Tokens.{tokens_of}
+use Rattle.pf_expand.specs.Clauses.Runs.{run}
+use Rattle.pf_expand.specs.Clauses.Tokens.{tokens_of}
 use Rattle.pf_expand.specs.declared.flaw.Flaw.TheVariants.{BadForm, TooDeep}
 use Rattle.pf_expand.specs.declared.names.Meaning.{Meaning}
 use Rattle.pf_expand.specs.declared.names.Meaning.TheVariants as meaning
