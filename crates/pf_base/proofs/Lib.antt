@@ -9,3 +9,4 @@ pub mod PrintingLaws
 pub mod Rows
 pub mod StatusLemmas
 pub mod ToldLemmas
+pub mod WordLemmas

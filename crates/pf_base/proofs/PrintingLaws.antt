@@ -2,7 +2,7 @@
 use Rattle.std.proofs.Common.{◌≡◌, ◌≢◌, ℕ, Bool, true, false, List, [], ◌∷◌, refl, arith, zero, suc, if◌then◌else◌}
 use Rattle.std.proofs.lemmas.Bool.{ltb-false}
 use Rattle.std.specs.Prelude.{◌||◌, nat_lt, ◌==◌}
-use Rattle.pf_base.proofs.LineEnds.{HasNoFeed, lines_at_feed}
+use Rattle.pf_base.proofs.LineEnds.{HasNoFeed, lines_of_line}
 use Rattle.pf_base.specs.Lines.{lines}
 use Rattle.pf_base.specs.Printing.{printable, printed, printed_line}
 
@@ -24,4 +24,4 @@ printed_no_feed (b ∷ text) (suc k) lt = printed_no_feed text k (omega (arith, 
 -- no line of the log holds a line feed before its end
 pub one_line : (text : List ℕ) → lines (printed_line text) ≡ printed text ∷ []
 unfolding printed_line
-one_line text = lines_at_feed (printed text) [] (printed_no_feed text)
+one_line text = lines_of_line (printed text) (printed_no_feed text)

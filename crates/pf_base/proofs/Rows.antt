@@ -1,14 +1,15 @@
 -- Worked examples of the definitions, each by computation.
-use Rattle.std.proofs.Common.{◌≡◌, ℕ, Bool, true, false, List, [], ◌∷◌, None, Some, Ok, Err, refl, codes, map}
+use Rattle.std.proofs.Common.{◌≡◌, ℕ, true, false, List, [], ◌∷◌, None, Some, Ok, Err, refl, codes, map}
 use Rattle.pf_base.specs.Braces.{lone_brace, partner}
 use Rattle.pf_base.specs.Clauses.Causes.{counted, counted_by}
 use Rattle.pf_base.specs.FileList.{file_of, whole_file, with_file}
 use Rattle.pf_base.specs.Clauses.Gathering.{followed_by}
-use Rattle.pf_base.specs.Lines.{lines, onto_line, rest, unless_line, without_return}
+use Rattle.pf_base.specs.Lines.{is_feed, lines, parts, rest, without_return}
 use Rattle.pf_base.specs.Logical.{grouped, is_ignored, logical_lines_of, physical_lines, starts_with_space}
 use Rattle.pf_base.specs.Clauses.Memory.{fails_next, greatest_read}
 use Rattle.pf_base.specs.Names.{folded, is_host_name, is_label, is_label_byte, same_in_any_case}
 use Rattle.pf_base.specs.Clauses.Objects.{appended, sink_status, sinks}
+use Rattle.pf_base.specs.Clauses.Pieces.{onto_line, unless_line}
 use Rattle.pf_base.specs.Printing.{printable, printed_line}
 use Rattle.pf_base.specs.Refusal.{cause_text, name_part, refusal_line}
 use Rattle.std.specs.Fmt.{digits}
@@ -38,13 +39,22 @@ count_stays : counted 18446744073709551615 ≡ 18446744073709551615
 count_stays = refl
 
 -- lines
+ends_a_line : map is_feed (10 ∷ 13 ∷ []) ≡ true ∷ false ∷ []
+ends_a_line = refl
+
+parted_at_line_feeds : parts (codes "HELO a\r\nQUIT\n") ≡ codes "HELO a\r" ∷ codes "QUIT" ∷ [] ∷ []
+parted_at_line_feeds = refl
+
 two_lines : lines (codes "HELO a\r\nQUIT\n") ≡ codes "HELO a\r" ∷ codes "QUIT" ∷ []
+unfolding lines
 two_lines = refl
 
 no_line_end : lines (codes "QUIT") ≡ []
+unfolding lines
 no_line_end = refl
 
 empty_line : lines (codes "\n\nQ") ≡ [] ∷ [] ∷ []
+unfolding lines
 empty_line = refl
 
 joins_first_line : onto_line (codes "QU") (codes "IT" ∷ codes "HELO" ∷ []) ≡ codes "QUIT" ∷ codes "HELO" ∷ []
@@ -54,12 +64,15 @@ joins_no_line : onto_line (codes "QU") [] ≡ []
 joins_no_line = refl
 
 behind_last_line : rest (codes "HELO a\nQU") ≡ codes "QU"
+unfolding rest
 behind_last_line = refl
 
 behind_line_end : rest (codes "QUIT\n") ≡ []
+unfolding rest
 behind_line_end = refl
 
 all_is_rest : rest (codes "QUIT") ≡ codes "QUIT"
+unfolding rest
 all_is_rest = refl
 
 belongs_to_no_line : unless_line [] (codes "QU") (codes "IT") ≡ codes "QU"

@@ -5,5 +5,6 @@ pub mod Fronts
 pub mod Gathering
 pub mod Memory
 pub mod Objects
+pub mod Pieces
 pub mod Told
 pub mod Unless

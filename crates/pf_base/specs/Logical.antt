@@ -3,7 +3,7 @@
 use Rattle.std.specs.Prelude.{ℕ, ◌+◌, ◌++◌, ◌==◌, Bool, true, false, List, [], ◌∷◌, Result, Ok, Err, if◌then◌else◌}
 use Rattle.std.specs.List.{fold}
 use Rattle.pf_base.specs.Ascii as ascii
-use Rattle.pf_base.specs.Lines.{lines, rest, without_return}
+use Rattle.pf_base.specs.Lines.{parts, without_return}
 use Rattle.pf_base.specs.Space.{is_space, without_leading_space}
 use Rattle.pf_base.specs.declared.logical.Logical.{Logical}
 use Rattle.pf_base.specs.declared.logical.TextFault.{TextFault}
@@ -21,7 +21,7 @@ numbered n (line ∷ lines) = record { number = n; text = without_return line } 
 
 -- the physical lines of a text: one ends at a line feed or at the end of the text
 abbrev pub physical_lines : List ℕ → List Physical
-physical_lines text = numbered 1 (lines text ++ rest text ∷ [])
+physical_lines text = numbered 1 (parts text)
 
 -- nothing is left of the line, or a comment
 abbrev pub is_empty_or_comment : List ℕ → Bool

@@ -1,9 +1,8 @@
 -- The words of a value (postconf(5), parameters that are lists; DATABASE_README, inline, for braces).
 use Rattle.std.specs.Prelude.{ℕ, ◌==◌, ◌||◌, ◌&&◌, Bool, nat_lt, List, [], ◌∷◌, Option, None, Some, Result, Ok, Err, length, if◌then◌else◌}
-use Rattle.std.specs.List.{filter}
+use Rattle.std.specs.List.{filter, onto_first}
 use Rattle.pf_base.specs.Ascii as ascii
 use Rattle.pf_base.specs.Braces.{lone_brace, open_behind}
-use Rattle.pf_base.specs.Lines.{onto_line}
 use Rattle.pf_base.specs.Space.{is_space}
 use Rattle.pf_base.specs.declared.words.WordsFault.{WordsFault}
 use Rattle.pf_base.specs.declared.words.WordsFault.TheVariants.{Unbalanced}
@@ -16,7 +15,7 @@ is_separator b = is_space b || b == ascii.line_feed || b == ascii.comma
 abbrev pub parted : ℕ → List ℕ → List (List ℕ)
 parted depth [] = [] ∷ []
 parted depth (b ∷ text) =
-    if depth == 0 && is_separator b then [] ∷ parted 0 text else onto_line (b ∷ []) (parted (open_behind depth b) text)
+    if depth == 0 && is_separator b then [] ∷ parted 0 text else onto_first b (parted (open_behind depth b) text)
 
 -- the parts that are not empty
 abbrev pub words_in : List ℕ → List (List ℕ)

@@ -1,7 +1,7 @@
 pub mod Arguments
 pub mod Catalogue
-pub mod Clients
 pub mod Clauses
+pub mod Clients
 pub mod Lists
 pub mod Numbers
 pub mod Tables

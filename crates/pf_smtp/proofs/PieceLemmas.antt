@@ -3,7 +3,8 @@ use Rattle.std.proofs.Common.{◌≡◌, ℕ, ◌+◌, ◌-◌, ◌≤◌, false
 use Rattle.std.proofs.lemmas.List.{take_min}
 use Rattle.std.proofs.lemmas.List.Concat.{flat_map-append}
 use Rattle.std.proofs.Math.Seq.{take-append-add}
-use Rattle.pf_base.specs.Lines.{lines, rest, onto_line, unless_line}
+use Rattle.pf_base.specs.Lines.{lines, rest}
+use Rattle.pf_base.specs.Clauses.Pieces.{onto_line, unless_line}
 use Rattle.pf_base.proofs.LineEnds.{rest_of_none}
 use Rattle.pf_base.specs.Clauses.Objects.{joined}
 use Rattle.pf_base.specs.declared.texts.Texts.{Texts}

@@ -1,6 +1,7 @@
 -- Worked examples of the definitions, each by computation.
 use Rattle.std.proofs.Common.{◌≡◌, ◌++◌, true, false, [], ◌∷◌, map, replicate, length, None, Some, refl, codes}
 use Rattle.std.specs.Fmt.{digits}
+use Rattle.pf_base.specs.Lines.{lines, rest}
 use Rattle.pf_base.specs.Printing.{printed_line}
 use Rattle.pf_eval.specs.Judge.{end_of}
 use Rattle.pf_eval.specs.declared.policy.PlainEnd.TheVariants.{Accept, Deny}
@@ -253,17 +254,17 @@ state_at_the_start : start ≡ record { line = 0; sender = None; over = false }
 state_at_the_start = refl
 
 empty_input : session site [] ≡ stays start
-unfolding steps
+unfolding steps lines
 empty_input = refl
 
 bytes_behind_the_last_line : session site (codes "HELO a\r\n\nQUIT")
     ≡ record { replies = Helo Hello ∷ Line BadSyntax ∷ []; records = []; entries = []; next = record { line = 2; sender = None; over = false } }
-unfolding steps step command verb_of
+unfolding steps step command verb_of lines
 bytes_behind_the_last_line = refl
 
 helo_between_mail_and_rcpt : (session site (codes "MAIL FROM:<joe@other.test>\nHELO a\nRCPT TO:<ann@Example.com>\n")).replies
     ≡ Mail mail_reply.Taken ∷ Helo Hello ∷ Rcpt rcpt_reply.NeedMail ∷ []
-unfolding steps step command verb_of after_keyword path_of
+unfolding steps step command verb_of after_keyword path_of lines
 helo_between_mail_and_rcpt = refl
 
 texts_of_a_step : replies_text site (before (says (Quit quit_reply.Syntax) idle) (says (Quit quit_reply.Bye) ended))
@@ -286,11 +287,11 @@ before_the_first_byte = refl
 
 line_in_two_pieces : given (record { setup = site; state = idle; part = codes "QU" }) (codes "IT\nX\n")
     ≡ says (Quit quit_reply.Bye) (record { line = 8; sender = None; over = true })
-unfolding steps step command verb_of
+unfolding steps step command verb_of lines
 line_in_two_pieces = refl
 
 line_that_has_not_ended : given (record { setup = site; state = idle; part = codes "QU" }) (codes "IT") ≡ stays idle
-unfolding steps
+unfolding steps lines
 line_that_has_not_ended = refl
 
 end_of_a_line : line_given (record { setup = site; state = idle; part = codes "QUI" }) (codes "\r") ≡ says (Line NotRecognized) later
@@ -299,9 +300,11 @@ end_of_a_line = refl
 
 part_of_a_line : map (part_behind (record { setup = site; state = idle; part = codes "QU" })) (codes "I" ∷ codes "IT\nHE" ∷ codes "IT\n" ∷ [])
     ≡ codes "QUI" ∷ codes "HE" ∷ [] ∷ []
+unfolding lines rest
 part_of_a_line = refl
 
 longest_part : length (part_behind (fresh site) (replicate 2051 97)) ≡ 2050
+unfolding lines rest
 longest_part = refl
 
 over_or_not : map going_of (idle ∷ ended ∷ []) ≡ More ∷ Over ∷ []

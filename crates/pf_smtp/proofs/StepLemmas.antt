@@ -2,7 +2,8 @@
 use Rattle.std.proofs.Common.{◌≡◌, ℕ, ◌-◌, ◌<◌, ◌≤◌, true, false, List, [], ◌∷◌, ◌++◌, length, take, slice_index, refl, sym, ap, ◌∙◌, arith, append_assoc, inl, inr, if◌then◌else◌, eqb, length-take}
 use Rattle.std.proofs.lemmas.List.{take_all, length-take-le, take-take, take-append-le}
 use Rattle.std.proofs.lemmas.Bool.{lt-ltb, cases_lt}
-use Rattle.pf_base.specs.Lines.{lines, rest, onto_line, unless_line, without_return}
+use Rattle.pf_base.specs.Lines.{lines, rest, without_return}
+use Rattle.pf_base.specs.Clauses.Pieces.{onto_line, unless_line}
 use Rattle.pf_base.specs.Clauses.Causes.{counted}
 use Rattle.pf_base.proofs.LineEnds.{lines-append, rest-append, rest_of_none}
 use Rattle.pf_smtp.specs.Clauses.Feeding.{given, part_behind}

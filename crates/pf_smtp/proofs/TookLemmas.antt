@@ -2,7 +2,8 @@
 use Rattle.std.proofs.Common.{◌≡◌, ℕ, true, false, List, [], ◌++◌, take, refl, sym, ap, ◌∙◌}
 use Rattle.std.proofs.lemmas.Bool.{false≢true}
 use Rattle.pf_base.proofs.ToldLemmas.{appended_more, appended_none}
-use Rattle.pf_base.specs.Lines.{lines, rest, unless_line}
+use Rattle.pf_base.specs.Lines.{lines, rest}
+use Rattle.pf_base.specs.Clauses.Pieces.{unless_line}
 use Rattle.pf_base.specs.Clauses.Objects.{Sinks, appended, joined}
 use Rattle.pf_smtp.proofs.PieceLemmas.{given_over, texts-before}
 use Rattle.pf_smtp.proofs.StepLemmas.{behind, given-append, part_behind-append}
@@ -13,7 +14,7 @@ use Rattle.pf_smtp.specs.declared.state.Setup.{Setup}
 
 -- a session that has taken nothing
 pub took_none : (told : Sinks) (setup : Setup) → Took told told (fresh setup) (fresh setup) []
-unfolding steps
+unfolding steps lines
 took_none told setup = record {
   sinks = sym (appended_none told);
   setup = refl;

@@ -1,5 +1,5 @@
-pub mod Command
 pub mod Clauses
+pub mod Command
 pub mod Path
 pub mod Session
 pub mod Step

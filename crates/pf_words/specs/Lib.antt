@@ -1,6 +1,6 @@
 pub mod Address
-pub mod Commands
 pub mod Clauses
+pub mod Commands
 pub mod Found
 pub mod Numbers
 pub mod Postconf

@@ -1,8 +1,9 @@
 -- What contracts say of a session that is fed piece by piece: where it stands between two pieces, and what it wrote. Words of contracts;
 -- the session itself is the definition over its whole input.
 use Rattle.std.specs.Prelude.{◌≡◌, ℕ, ◌+◌, ◌++◌, Bool, false, List, [], take, if◌then◌else◌}
-use Rattle.pf_base.specs.Lines.{lines, rest, onto_line, unless_line}
+use Rattle.pf_base.specs.Lines.{lines, rest}
 use Rattle.pf_base.specs.Clauses.Objects.{Sinks, appended}
+use Rattle.pf_base.specs.Clauses.Pieces.{onto_line, unless_line}
 use Rattle.pf_base.specs.declared.texts.Texts.{Texts}
 use Rattle.pf_smtp.specs.Session.{start, steps, replies_text, records_text, log_text}
 use Rattle.pf_smtp.specs.Step.{Step, line_limit}

@@ -1,8 +1,12 @@
-use Rattle.std.proofs.Common.{[], sym, ap, ◌∙◌}
+use Rattle.std.proofs.Common.{[], sym, ap, refl, ◌∙◌, arith}
 use Rattle.std.proofs.lemmas.Result.{err_from_is_err_and}
-use Rattle.pf_base.specs.Logical.{outcome}
+use Rattle.pf_base.specs.Logical.{grouped, numbered, outcome}
+use Rattle.pf_base.proofs.LineEnds.{parts_are}
 use Rattle.pf_base.proofs.LogicalLemmas.{outcome_at_end}
 use Rattle.pf_base.proofs.logical.logical_lines.Goals as goal
+
+pub lines-init : goal.lines-init
+lines-init c = rw c.new.ensures (ap (λ p. grouped (numbered 1 p)) (parts_are c.args.text.now), λ none. refl, omega arith)
 
 pub returns-in_err-take_line-in-None : goal.returns-in_err-take_line-in-None
 returns-in_err-take_line-in-None c =
