@@ -2,4 +2,5 @@ pub mod BrokenLaws
 pub mod CountLaws
 pub mod HeldLaws
 pub mod LedLaws
+pub mod MemoryLemmas
 pub mod Rows

@@ -3,3 +3,4 @@ pub mod Causes
 pub mod Held
 pub mod Led
 pub mod Looking
+pub mod Memory

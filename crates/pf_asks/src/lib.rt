@@ -4,8 +4,10 @@
 
 mod links;
 mod lookup;
+mod memory;
 mod resolver;
 
 pub use links::{LinkStep, Links, Outcome, Request};
 pub use lookup::{Found, Lookup, TableFault};
+pub use memory::MemResolver;
 pub use resolver::{Answer, AskFault, Kind, Resolver, Row};
