@@ -1,9 +1,9 @@
 -- What want of memory broke off. Each caller's answers rest on broken_next and one law for each kind of outside call.
-use Rattle.std.proofs.Common.{◌≡◌, ◌++◌, ℕ, false, List, [], Result, Ok, Err, refl, sym, ap, ◌∙◌, inl, inr}
+use Rattle.std.proofs.Common.{◌≡◌, ℕ, false, List, Result, Ok, Err, refl, sym, ap, ◌∙◌, inl, inr}
 use Rattle.std.specs.Prelude.{MatchResult}
 use Rattle.pf_asks.proofs.LedLaws.{behind_behind, led_refl, led_same, led_trans}
 use Rattle.pf_asks.specs.Clauses.Held.{Held, called}
-use Rattle.pf_asks.specs.Clauses.Led.{Asks, AsksLinks, AsksResolver, AsksTables, BrokenOff, Cut, Led, Same, WantsAtLookup, WantsAtName, WantsAtTry, World}
+use Rattle.pf_asks.specs.Clauses.Led.{Asks, AsksLinks, AsksResolver, AsksTables, BrokenOff, Cut, Led, Same, World}
 use Rattle.pf_asks.specs.Clauses.Looking.{Tables, looked_up}
 use Rattle.pf_asks.specs.Questions.{Ask, ask, behind, done, look, try, ◌>>=◌}
 use Rattle.pf_asks.specs.Wire.{Wire}

@@ -1,6 +1,6 @@
 -- How many lookups a question makes.
 use Rattle.std.proofs.Common.{◌≡◌, ◌≤◌, ◌+◌, ℕ, List, [], ◌∷◌, Option, None, length, ap, arith, append-nil}
-use Rattle.pf_asks.specs.Heard.{Heard, ◌then◌, next, nothing}
+use Rattle.pf_asks.specs.Heard.{◌then◌, next, nothing}
 use Rattle.pf_asks.specs.Clauses.Led.{AtMost, ByTables, Meant}
 use Rattle.pf_asks.specs.Clauses.Looking.{Looked, Tables}
 use Rattle.pf_asks.specs.Questions.{Ask, Means, done, look, ◌>>=◌}

@@ -1,17 +1,14 @@
 -- What a resolver in memory answers.
-use Rattle.std.proofs.Common.{◌≡◌, ◌≢◌, ℕ, ◌&&◌, Bool, true, false, List, [], ◌∷◌, Option, None, Some, Ok, Err, refl, sym, ap, ◌∙◌, arith}
-use Rattle.std.proofs.lemmas.Bool.{and_parts, ltb-true}
-use Rattle.std.specs.Prelude.{cond, length, nat_lt}
+use Rattle.std.proofs.Common.{◌≡◌, ℕ, Bool, true, false, List, [], ◌∷◌, Some, Err, refl}
+use Rattle.std.proofs.lemmas.Bool.{and_parts}
+use Rattle.std.specs.Prelude.{cond}
 use Rattle.std.specs.List.{find}
-use Rattle.std.specs.Str.{bytes_eq}
-use Rattle.pf_base.specs.Clauses.Memory.{Calls}
-use Rattle.pf_base.specs.Names.{folded}
-use Rattle.pf_asks.specs.Clauses.Held.{Answered, called}
-use Rattle.pf_asks.specs.Clauses.Memory.{CountsAsk, MemoryResolver, has_values, have_values, resolver_held}
-use Rattle.pf_asks.specs.Resolving.{Asked, HasValues, answer_in, answer_of, ask_failed, same_kind}
+use Rattle.pf_asks.specs.Clauses.Held.{Answered}
+use Rattle.pf_asks.specs.Clauses.Memory.{has_values, have_values}
+use Rattle.pf_asks.specs.Resolving.{HasValues, answer_in, answer_of, ask_failed}
 use Rattle.pf_asks.specs.declared.resolver.Answer.{Answer}
 use Rattle.pf_asks.specs.declared.resolver.Answer.TheVariants.{Found, Missing, Again}
-use Rattle.pf_asks.specs.declared.resolver.AskFault.TheVariants.{Failed, NoMemory}
+use Rattle.pf_asks.specs.declared.resolver.AskFault.TheVariants.{Failed}
 use Rattle.pf_asks.specs.declared.resolver.Kind.{Kind}
 use Rattle.pf_asks.specs.declared.resolver.Row.{Row}
 

@@ -4,3 +4,4 @@ pub mod Held
 pub mod Led
 pub mod Looking
 pub mod Memory
+pub mod MemoryLinks

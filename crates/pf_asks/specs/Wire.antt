@@ -52,13 +52,13 @@ with_sent wire front last piece = record wire { tries = front ++ (record last { 
 abbrev pub with_left : Wire → Open → List ℕ → Wire
 with_left wire one left = record wire { opened = Some (record one { left = left }) }
 
--- a connect begins a try and fails exactly where its outcome says so; after want of memory the try is begun or nothing has changed
+-- a connect begins a try and fails exactly where its outcome says so; after want of memory the try is begun, or none is open
 abbrev pub Connects : {T : Type 0} → Option Wire → Option Wire → Result T OuterFault → List ℕ → Type 0
 Connects None new result service = new ≡ None
 Connects (Some wire) new result service = MatchResult result
     (λ _. (new ≡ Some (begun service wire)) × ((next_outcome wire.outcomes).0 ≢ Down Connect))
     (λ fault. ((fault ≡ Failed) → (new ≡ Some (begun service wire)) × ((next_outcome wire.outcomes).0 ≡ Down Connect))
-    × ((fault ≡ NoMemory) → (new ≡ Some (begun service wire)) ⊎ (new ≡ Some wire)))
+    × ((fault ≡ NoMemory) → (new ≡ Some (begun service wire)) ⊎ (new ≡ Some (hung_up wire))))
 
 -- a send adds the piece to what the open try was sent; a refused one adds a front of it, and fails exactly where the outcome says so.
 -- Where no try is open it is refused, and nothing changes.

@@ -43,7 +43,7 @@ pub trait Links {
     ghost held: { Self → Held Wire };
 
     /// Begins a try. `Failed` comes exactly where its outcome is Down at Connect, and the count of faults then goes up by one.
-    /// After want of memory the try is begun or nothing has changed.
+    /// After want of memory the try is begun, or none is open.
     fn connect(&mut self, service: &[u8]) -> Result<(), OuterFault>
         ensures does { Connects (held self.old).content (held self.new).content result service.now }
         ensures cause { (held self.new).faults ≡ counted_if (outer_failed result) (held self.old).faults };

@@ -4,7 +4,7 @@ use Rattle.std.specs.List.{count_by}
 use Rattle.pf_base.specs.Clauses.Causes.{counted_by}
 use Rattle.pf_asks.specs.Clauses.Held.{Held}
 use Rattle.pf_asks.specs.Clauses.Led.{IsSent, tried}
-use Rattle.pf_asks.specs.Wire.{Open, Wire, is_down, next_outcome, reply_bytes, with_left}
+use Rattle.pf_asks.specs.Wire.{Open, Wire, hung_up, is_down, next_outcome, reply_bytes, with_left}
 use Rattle.pf_asks.specs.declared.links.LinkStep.TheVariants.{Connect, Send}
 use Rattle.pf_asks.specs.declared.links.Outcome.{Outcome}
 use Rattle.pf_asks.specs.declared.links.Outcome.TheVariants.{Down}
@@ -58,7 +58,7 @@ pub record Tries (old new : Held Wire) (service text : List ℕ) (reply : Option
 -- want of memory broke a try off, which may still be open: none was begun, or it was sent a front of the request
 abbrev pub IsLeft : Option Wire → Option Wire → List ℕ → List ℕ → Type 0
 IsLeft None new service text = new ≡ None
-IsLeft (Some wire) new service text = (new ≡ Some wire)
+IsLeft (Some wire) new service text = (new ≡ Some (hung_up wire))
     ⊎ ((n : ℕ) × (opened : Option Open) × (new ≡ Some (record (tried service (take n text) wire) { opened = opened })))
 
 pub record Leaves (old new : Held Wire) (service text : List ℕ) : Type 0 where

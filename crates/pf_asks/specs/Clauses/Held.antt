@@ -1,6 +1,6 @@
 -- What an object outside that answers questions tells contracts, and what is heard of it in place of what it means.
 -- Words of contracts, by no standard.
-use Rattle.std.specs.Prelude.{◌≡◌, ℕ, Bool, true, false, List, [], ◌∷◌, Option, None, Some}
+use Rattle.std.specs.Prelude.{◌≡◌, ℕ, Bool, true, false, List, Option, None, Some}
 use Rattle.std.specs.List.{count_by, list_all}
 use Rattle.std.specs.Option.{unwrap_or}
 use Rattle.pf_base.specs.Clauses.Causes.{counted_by}
