@@ -11,13 +11,13 @@ use Rattle.pf_base.specs.declared.fault.OuterFault.TheVariants.{Failed}
 use Rattle.pf_asks.proofs.BrokenLaws.{broken_first, broken_try}
 use Rattle.pf_asks.proofs.LedLaws.{led_first, led_try}
 use Rattle.pf_asks.specs.Clauses.Held.{Held}
-use Rattle.pf_asks.specs.Clauses.Led.{AsksLinks, Cut, IsCut, IsSent, Links, UsesTold}
+use Rattle.pf_asks.specs.Clauses.Led.{AsksLinks, IsCut, IsSent, UsesTold}
 use Rattle.pf_asks.specs.Wire.{Connects, Receives, Sends, Wire, begun, hung_up, is_down, next_outcome, reply_bytes}
 use Rattle.pf_asks.specs.declared.links.LinkStep.TheVariants.{Connect, Send, Receive}
 use Rattle.pf_asks.specs.declared.links.Outcome.{Outcome}
 use Rattle.pf_asks.specs.declared.links.Outcome.TheVariants.{Down, Reply}
 use Rattle.lookup_forms.specs.Policy.{one_reply, reply_in, reply_limit}
-use Rattle.lookup_forms.specs.Clauses.Trying.{HasRead, IsAnswered, IsLeft, IsRead, IsReadInPart, IsTried, Leaves, Reads, ReadsPart, Tries, fresh}
+use Rattle.lookup_forms.specs.Clauses.Trying.{HasRead, IsAnswered, IsLeft, IsRead, IsReadInPart, IsTried, Leaves, Reads, ReadsPart, Tries}
 
 -- nothing was read yet
 pub read_none : (wire : Option Wire) → HasRead wire wire []

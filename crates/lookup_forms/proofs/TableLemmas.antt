@@ -24,7 +24,7 @@ use Rattle.lookup_forms.specs.Restrictions.{permit_auth_destination, permits}
 use Rattle.lookup_forms.specs.declared.class.Class.TheVariants.{Local, Relay, Other}
 use Rattle.lookup_forms.specs.declared.class.ClassFault.{ClassFault}
 use Rattle.lookup_forms.specs.declared.class.Domains.{Domains}
-use Rattle.lookup_forms.specs.Tables.{Counts, Fixed, first_of, or_else, seen, value_in, values_of}
+use Rattle.lookup_forms.specs.Tables.{Counts, Fixed, first_of, or_else, seen, value_in}
 
 -- at most one lookup a table
 pub first_of_looks : (ids : List TableId) (key : List ℕ) → AtMost (length ids) (first_of ids key)

@@ -1,8 +1,10 @@
 //! Policy services in memory, each try of which gives the next of the outcomes that they are made with.
-ghost use Rattle.std.specs.Prelude.{◌≡◌, [], None, length, min, take, OnOk, OnErr};
+ghost use Rattle.std.specs.Io.{ReadsAtMost};
+ghost use Rattle.std.specs.Prelude.{◌≡◌, [], None, is_err, length, min, take, IfOk, OnOk, OnErr};
 ghost use Rattle.pf_base.specs.Clauses.Causes.{counted_by};
+ghost use Rattle.pf_asks.specs.Clauses.Causes.{counted_if};
 ghost use Rattle.pf_asks.specs.Clauses.MemoryLinks as memory;
-ghost use Rattle.pf_asks.specs.Wire.{begun, hung_up, next_outcome, reply_bytes};
+ghost use Rattle.pf_asks.specs.Wire.{Receives, begun, hung_up, next_outcome, reply_bytes};
 
 use crate::links::{LinkStep, Links, Outcome, Request};
 use pf_base::{Bytes, Failed, List, NoMemory, OuterFault};
@@ -199,7 +201,13 @@ impl Links for MemLinks {
         }
     }
 
-    fn receive(&mut self, buf: &mut [u8]) -> Result<usize, Failed> {
+    /// Fills the buffer, or reads up to the end of the reply.
+    fn receive(&mut self, buf: &mut [u8]) -> Result<usize, Failed>
+        ensures bound { ReadsAtMost result buf.new }
+        ensures does { Receives (memory.links_held self.old).content (memory.links_held self.new).content result buf.new }
+        ensures cause { (memory.links_held self.new).faults ≡ counted_if (is_err result) (memory.links_held self.old).faults }
+        ensures whole { IfOk result (λ n. n ≡ min (length (memory.left_in self.old.wire.opened)) (length buf.old)) }
+    {
         if self.fails_at(LinkStep::Receive) {
             self.fail();
             return Err(Failed);

@@ -29,6 +29,11 @@ abbrev pub fails_at : LinkStep → Option Open → Bool
 fails_at step None = true
 fails_at step (Some one) = is_down_at step one.outcome
 
+-- what is left of the open try's reply
+abbrev pub left_in : Option Open → List ℕ
+left_in None = []
+left_in (Some one) = one.left
+
 -- the tries that were begun; the request of an open one stands beside them until it is over
 abbrev pub all_tries : Bool → Request → List Request → List Request
 all_tries true request tries = take (length tries - 1) tries ++ request ∷ []

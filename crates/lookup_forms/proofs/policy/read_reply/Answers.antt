@@ -1,5 +1,5 @@
-use Rattle.std.proofs.Common.{refl, arith, ◌∙◌}
-use Rattle.lookup_forms.proofs.PolicyLemmas.{read_end, read_fails, read_long, read_more, read_none, read_part}
+use Rattle.std.proofs.Common.{refl, arith}
+use Rattle.lookup_forms.proofs.PolicyLemmas.{read_end, read_fails, read_long, read_none}
 use Rattle.lookup_forms.proofs.policy.read_reply.Goals as goal
 
 pub loop-buf-init : goal.loop-buf-init
