@@ -1,7 +1,7 @@
 -- A key that is looked up before and behind other lookups (access(5)).
-use Rattle.std.specs.Prelude.{◌≡◌, ℕ, List, Ok, Err, codes, if◌then◌else◌}
+use Rattle.std.specs.Prelude.{◌≡◌, ℕ, List, Option, Ok, Err, codes, if◌then◌else◌}
 use Rattle.std.specs.Str.{bytes_eq}
-use Rattle.pf_asks.specs.Clauses.Held.{Held, Holds}
+use Rattle.pf_asks.specs.Clauses.Held.{Holds}
 use Rattle.pf_asks.specs.Clauses.Looking.{Looked, Values, look_failed, value_of}
 use Rattle.pf_asks.specs.Questions.{Ask, done, look, ◌>>=◌}
 use Rattle.pf_asks.specs.declared.lookup.Found.TheVariants.{Value, Absent}
@@ -36,7 +36,7 @@ access_around id domains domain = do
   done (first_end before class behind)
 
 -- the end comes of an answer that may be used again
-pub record Keeps (held : Held Values) (id : ℕ) (key : List ℕ) (end : End) : Type 0 where
+pub record Keeps (content : Option Values) (id : ℕ) (key : List ℕ) (end : End) : Type 0 where
   pub looked : Looked
-  pub holds : Holds look_failed held (value_of id key) looked
+  pub holds : Holds look_failed content (value_of id key) looked
   pub is : end ≡ says looked

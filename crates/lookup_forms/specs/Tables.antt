@@ -1,8 +1,9 @@
 -- Lookups in tables in turn (DATABASE_README).
-use Rattle.std.specs.Prelude.{◌≡◌, ◌≤◌, ◌==◌, ℕ, Bool, true, false, List, [], ◌∷◌, Option, None, Some, length, slice_get}
+use Rattle.std.specs.Prelude.{◌≡◌, ◌==◌, ℕ, Bool, true, List, [], ◌∷◌, Option, None, Some, length, slice_get}
 use Rattle.std.specs.List.{find, list_any}
 use Rattle.std.specs.Str.{bytes_eq}
-use Rattle.pf_base.specs.Clauses.Causes.{counted}
+use Rattle.pf_base.specs.Clauses.Causes.{counted, counted_by}
+use Rattle.pf_asks.specs.Clauses.Causes.{counted_if}
 use Rattle.pf_asks.specs.Clauses.Looking.{Tables, Values}
 use Rattle.pf_asks.specs.Questions.{look}
 use Rattle.pf_asks.specs.Tries.{Try, ok, ◌>>=◌}
@@ -50,10 +51,8 @@ pub record Counts (old new : Fixed) (fails : Bool) : Type 0 where
   pub fails_is : fails ≡ list_any (λ n. n == counted old.finds) old.failing
   pub tables : new.tables ≡ old.tables
   pub failing : new.failing ≡ old.failing
-  pub finds : new.finds ≡ counted old.finds
-  pub later : old.faults ≤ new.faults
-  pub risen : fails ≡ true → new.faults ≡ counted old.faults
-  pub kept : fails ≡ false → new.faults ≡ old.faults
+  pub finds : new.finds ≡ counted_by 1 old.finds
+  pub faults : new.faults ≡ counted_if fails old.faults
 
 -- a value ends a search, and where there is none it goes on
 abbrev pub or_else : Found → Try TableFault Found → Try TableFault Found

@@ -1,7 +1,9 @@
 //! An answer that is kept and used again within one question.
-ghost use Rattle.std.specs.Prelude.{◌≡◌, ◌∷◌, [], true, Ok, IfOk};
+ghost use Rattle.std.specs.Prelude.{◌≡◌, ◌≤◌, ◌+◌, ◌∷◌, [], true, not, length, Ok, IfOk, MatchResult};
+ghost use Rattle.pf_base.specs.Clauses.Causes.{counted_by, RoseBy};
+ghost use Rattle.pf_asks.specs.Clauses.Causes.{counted_if};
 ghost use Rattle.pf_asks.specs.declared.lookup.Found.TheVariants.{Value};
-ghost use Rattle.pf_asks.specs.Clauses.Led.{ByTables};
+ghost use Rattle.pf_asks.specs.Clauses.Led.{AsksTables, ByTables, TablesBroken};
 ghost use Rattle.pf_asks.specs.Clauses.Looking.{CanFind};
 ghost use Rattle.lookup_forms.specs.Access as spec;
 ghost use Rattle.lookup_forms.specs.Classes.{tables_of};
@@ -38,6 +40,7 @@ fn value_end(value: &[u8]) -> End
     }
 }
 
+// How a key ends that is looked up once.
 fn access<T: Lookup>(
     alloc: Global,
     id: TableId,
@@ -45,8 +48,11 @@ fn access<T: Lookup>(
     tables: &mut T,
 ) -> Result<Seen, NoMemory>
     requires { CanFind (T.tables tables.old) (id ∷ []) }
-    ensures asked { IfOk result (λ seen. ByTables (T.tables tables.old) (T.tables tables.new) (spec.access id.0 key.now) seen.end) }
-    ensures keeps { IfOk result (λ seen. seen.works ≡ true → spec.Keeps (T.tables tables.new).held id.0 key.now seen.end) }
+    ensures asked { MatchResult result (λ seen. ByTables (T.tables tables.old) (T.tables tables.new) (spec.access id.0 key.now) seen.end)
+        (λ _. TablesBroken (T.tables tables.old) (T.tables tables.new) (spec.access id.0 key.now)) }
+    ensures keeps { IfOk result (λ seen. seen.works ≡ true → spec.Keeps (T.tables tables.new).held.content id.0 key.now seen.end) }
+    ensures finds { (T.tables tables.new).finds ≡ counted_by 1 (T.tables tables.old).finds }
+    ensures cause { IfOk result (λ seen. (T.tables tables.new).held.faults ≡ counted_if (not seen.works) (T.tables tables.old).held.faults) }
 {
     match tables.find(alloc, id, key) {
         Ok(Found::Value(value)) => Ok(noted(value_end(value.as_slice()), true)),
@@ -57,7 +63,7 @@ fn access<T: Lookup>(
     }
 }
 
-// How a key ends that was seen before: only one whose lookup failed is looked up again.
+// How a key ends that was seen before: only one whose lookup failed is looked up again, and that once.
 fn access_again<T: Lookup>(
     alloc: Global,
     id: TableId,
@@ -66,8 +72,9 @@ fn access_again<T: Lookup>(
     tables: &mut T,
 ) -> Result<End, NoMemory>
     requires can { CanFind (T.tables tables.old) (id ∷ []) }
-    requires keeps { seen.works ≡ true → spec.Keeps (T.tables tables.old).held id.0 key.now seen.end }
-    ensures { IfOk result (ByTables (T.tables tables.old) (T.tables tables.new) (spec.access id.0 key.now)) }
+    requires keeps { seen.works ≡ true → spec.Keeps (T.tables tables.old).held.content id.0 key.now seen.end }
+    ensures asked { AsksTables (T.tables tables.old) (T.tables tables.new) (spec.access id.0 key.now) result }
+    ensures finds { (T.tables tables.new).finds ≡ counted_if (not seen.works) (T.tables tables.old).finds }
 {
     if seen.works {
         return Ok(seen.end);
@@ -91,8 +98,8 @@ fn first_end(before: End, class: End, behind: End) -> End
     }
 }
 
-/// How a domain ends that is looked up in a table before its class is found and behind it. A lookup that did not fail from
-/// outside is made once.
+/// How a domain ends that is looked up in a table before its class is found and behind it. Where no count of faults rises
+/// the table is looked up once, and each table of the classes once at most.
 pub fn access_around<T: Lookup>(
     alloc: Global,
     id: TableId,
@@ -102,7 +109,9 @@ pub fn access_around<T: Lookup>(
 ) -> Result<End, NoMemory>
     requires key { CanFind (T.tables tables.old) (id ∷ []) }
     requires classes { CanFind (T.tables tables.old) (tables_of domains.now) }
-    ensures { IfOk result (ByTables (T.tables tables.old) (T.tables tables.new) (spec.access_around id.0 domains.now domain.now)) }
+    ensures asked { AsksTables (T.tables tables.old) (T.tables tables.new) (spec.access_around id.0 domains.now domain.now) result }
+    ensures once { IfOk result (λ _. (RoseBy 1 (T.tables tables.old).held.faults (T.tables tables.new).held.faults → ⊥)
+        → (T.tables tables.new).finds ≤ (T.tables tables.old).finds + 1 + length (tables_of domains.now)) }
 {
     let before = access(alloc, id, domain, tables)?;
     let class = permit_auth_destination(alloc, domains, domain, tables)?;

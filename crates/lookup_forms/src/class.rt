@@ -1,7 +1,5 @@
 //! Straight lines over lookups, with a fault of its own.
-ghost use Rattle.std.specs.Prelude.{◌≡◌, ◌++◌};
-ghost use Rattle.pf_base.specs.Clauses.Unless.{Unless};
-ghost use Rattle.pf_asks.specs.Clauses.Led.{ByTables};
+ghost use Rattle.pf_asks.specs.Clauses.Led.{TriesTables};
 ghost use Rattle.pf_asks.specs.Clauses.Looking.{CanFind};
 ghost use Rattle.lookup_forms.specs.Classes as classes;
 
@@ -40,7 +38,7 @@ fn is_listed<T: Lookup>(
     domain: &[u8],
 ) -> Result<bool, ClassFault>
     requires { CanFind (T.tables tables.old) ids.now }
-    ensures { Unless result ClassFault.NoMemory (ByTables (T.tables tables.old) (T.tables tables.new) (classes.is_listed ids.now domain.now)) }
+    ensures { TriesTables (T.tables tables.old) (T.tables tables.new) ClassFault.NoMemory (classes.is_listed ids.now domain.now) result }
 {
     match find_first(alloc, tables, ids, domain) {
         Ok(Found::Value(_)) => Ok(true),
@@ -60,7 +58,7 @@ pub fn class_of<T: Lookup>(
     domain: &[u8],
 ) -> Result<Class, ClassFault>
     requires { CanFind (T.tables tables.old) (classes.tables_of domains.now) }
-    ensures { Unless result ClassFault.NoMemory (ByTables (T.tables tables.old) (T.tables tables.new) (classes.class_of domains.now domain.now)) }
+    ensures { TriesTables (T.tables tables.old) (T.tables tables.new) ClassFault.NoMemory (classes.class_of domains.now domain.now) result }
 {
     if is_listed(alloc, tables, domains.local.as_slice(), domain)? {
         return Ok(Class::Local);

@@ -1,6 +1,6 @@
 //! Nested judging: lists of restrictions that name other lists.
-ghost use Rattle.std.specs.Prelude.{◌≡◌, IfOk};
-ghost use Rattle.pf_asks.specs.Clauses.Led.{Answers, ByLinks, ByTables, world};
+ghost use Rattle.std.specs.Prelude.{◌≡◌};
+ghost use Rattle.pf_asks.specs.Clauses.Led.{Asks, AsksLinks, AsksTables, world};
 ghost use Rattle.pf_asks.specs.Clauses.Looking.{CanFind};
 ghost use Rattle.lookup_forms.specs.Classes.{tables_of};
 ghost use Rattle.lookup_forms.specs.Restrictions as spec;
@@ -23,7 +23,7 @@ pub(crate) fn permit_auth_destination<T: Lookup>(
     tables: &mut T,
 ) -> Result<End, NoMemory>
     requires { CanFind (T.tables tables.old) (tables_of domains.now) }
-    ensures { IfOk result (ByTables (T.tables tables.old) (T.tables tables.new) (spec.permit_auth_destination domains.now domain.now)) }
+    ensures { AsksTables (T.tables tables.old) (T.tables tables.new) (spec.permit_auth_destination domains.now domain.now) result }
 {
     match class_of(alloc, tables, domains, domain) {
         Ok(Class::Local) => Ok(End::Permit),
@@ -73,7 +73,7 @@ fn check_policy_service<K: Links>(
     domain: &[u8],
     links: &mut K,
 ) -> Result<End, NoMemory>
-    ensures { IfOk result (ByLinks (K.held links.old) (K.held links.new) (spec.check_policy_service service.now domain.now)) }
+    ensures { AsksLinks (K.held links.old) (K.held links.new) (spec.check_policy_service service.now domain.now) result }
 {
     let reply = first_reply(alloc, service, domain, POLICY_TRIES, links)?;
     Ok(replied(&reply))
@@ -91,8 +91,8 @@ fn restriction_end<T: Lookup, K: Links, R: Resolver>(
     resolver: &mut R,
 ) -> Result<End, NoMemory>
     requires { CanFind (T.tables tables.old) (tables_of site.now.domains) }
-    ensures { IfOk result (Answers (world (T.tables tables.old) (K.held links.old) (R.held resolver.old)) (world (T.tables tables.new) (K.held links.new) (R.held resolver.new))
-        (spec.restriction_end site.now domain.now (spec.class_end site.now domain.now levels) restriction)) }
+    ensures { Asks (world (T.tables tables.old) (K.held links.old) (R.held resolver.old)) (world (T.tables tables.new) (K.held links.new) (R.held resolver.new))
+        (spec.restriction_end site.now domain.now (spec.class_end site.now domain.now levels) restriction) result }
 {
     match restriction {
         Restriction::PermitAuthDestination => {
@@ -120,8 +120,8 @@ fn list_end<T: Lookup, K: Links, R: Resolver>(
     resolver: &mut R,
 ) -> Result<End, NoMemory>
     requires { CanFind (T.tables tables.old) (tables_of site.now.domains) }
-    ensures { IfOk result (Answers (world (T.tables tables.old) (K.held links.old) (R.held resolver.old)) (world (T.tables tables.new) (K.held links.new) (R.held resolver.new))
-        (spec.list_end site.now domain.now levels list.now)) }
+    ensures { Asks (world (T.tables tables.old) (K.held links.old) (R.held resolver.old)) (world (T.tables tables.new) (K.held links.new) (R.held resolver.new))
+        (spec.list_end site.now domain.now levels list.now) result }
 {
     for restriction in list {
         match restriction_end(
@@ -156,8 +156,8 @@ pub fn judge<T: Lookup, K: Links, R: Resolver>(
     resolver: &mut R,
 ) -> Result<End, NoMemory>
     requires { CanFind (T.tables tables.old) (tables_of site.now.domains) }
-    ensures { IfOk result (Answers (world (T.tables tables.old) (K.held links.old) (R.held resolver.old)) (world (T.tables tables.new) (K.held links.new) (R.held resolver.new))
-        (spec.class_end site.now domain.now levels class)) }
+    ensures { Asks (world (T.tables tables.old) (K.held links.old) (R.held resolver.old)) (world (T.tables tables.new) (K.held links.new) (R.held resolver.new))
+        (spec.class_end site.now domain.now levels class) result }
 {
     if levels == 0 {
         return Ok(End::Deny(451));

@@ -1,6 +1,6 @@
 //! Straight lines over questions to a resolver.
-ghost use Rattle.std.specs.Prelude.{◌≡◌, IfOk};
-ghost use Rattle.pf_asks.specs.Clauses.Led.{ByResolver};
+ghost use Rattle.std.specs.Prelude.{◌≡◌};
+ghost use Rattle.pf_asks.specs.Clauses.Led.{AsksResolver};
 ghost use Rattle.pf_asks.specs.Resolving.{or_again};
 ghost use Rattle.lookup_forms.specs.Senders as spec;
 
@@ -34,7 +34,7 @@ fn has_record<R: Resolver>(
     kind: Kind,
     resolver: &mut R,
 ) -> Result<Existence, NoMemory>
-    ensures { IfOk result (ByResolver (R.held resolver.old) (R.held resolver.new) (spec.has_record name.now kind)) }
+    ensures { AsksResolver (R.held resolver.old) (R.held resolver.new) (spec.has_record name.now kind) result }
 {
     match resolver.ask(alloc, name, kind) {
         Ok(answer) => Ok(existence_of(&answer)),
@@ -48,7 +48,7 @@ pub(crate) fn reject_unknown_sender_domain<R: Resolver>(
     domain: &[u8],
     resolver: &mut R,
 ) -> Result<End, NoMemory>
-    ensures { IfOk result (ByResolver (R.held resolver.old) (R.held resolver.new) (spec.reject_unknown_sender_domain domain.now)) }
+    ensures { AsksResolver (R.held resolver.old) (R.held resolver.new) (spec.reject_unknown_sender_domain domain.now) result }
 {
     match has_record(alloc, domain, Kind::Mx, resolver)? {
         Existence::Exists => return Ok(End::Through),

@@ -50,7 +50,9 @@ pub enum PathFault {
 }
 
 impl From<NoMemory> for PathFault {
-    fn from(_: NoMemory) -> PathFault {
+    fn from(_: NoMemory) -> PathFault
+        ensures { result ≡ PathFault.NoMemory }
+    {
         PathFault::NoMemory
     }
 }

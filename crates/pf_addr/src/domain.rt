@@ -14,12 +14,7 @@ pub(crate) fn name_len(text: &[u8]) -> usize
     ensures within { result ≤ length text.now }
     ensures count { result ≡ prefix_len grammar.is_name_byte text.now }
 {
-    for (i, b) in text.iter().enumerate() {
-        if !is_name_byte(*b) {
-            return i;
-        }
-    }
-    text.len()
+    text.iter().take_while(|b| is_name_byte(**b)).count()
 }
 
 // How many bytes of a literal's inside a text begins with.
@@ -27,12 +22,7 @@ fn inside_len(text: &[u8]) -> usize
     ensures within { result ≤ length text.now }
     ensures count { result ≡ prefix_len grammar.is_literal_byte text.now }
 {
-    for (i, b) in text.iter().enumerate() {
-        if !is_literal_byte(*b) {
-            return i;
-        }
-    }
-    text.len()
+    text.iter().take_while(|b| is_literal_byte(**b)).count()
 }
 
 // The length of the literal whose first bracket stands in front of a text.

@@ -14,12 +14,7 @@ fn plain_bytes(text: &[u8]) -> usize
     ensures within { result ≤ length text.now }
     ensures count { result ≡ prefix_len grammar.is_plain_byte text.now }
 {
-    for (i, b) in text.iter().enumerate() {
-        if !is_plain_byte(*b) {
-            return i;
-        }
-    }
-    text.len()
+    text.iter().take_while(|b| is_plain_byte(**b)).count()
 }
 
 // The place behind the last at sign, or 0 where there is none.

@@ -1,5 +1,6 @@
 //! Quoted strings of local parts (RFC 5321, 4.1.2).
 ghost use Rattle.std.specs.Prelude.{◌≡◌, ◌<◌, ◌==◌, ◌&&◌, length, false, not, IfOk, IfSome};
+ghost use Rattle.pf_base.specs.Ascii as ascii;
 ghost use Rattle.pf_addr.specs.Clauses.Reading as reading;
 
 use pf_base::{Bytes, NoMemory};
@@ -7,14 +8,14 @@ use std::alloc::Global;
 
 // Whether a byte ends a quoted string; taken says that a backslash stands in front of it.
 fn is_closing(taken: bool, b: u8) -> bool
-    ensures { result ≡ (not taken && b == 34) }
+    ensures { result ≡ (not taken && b == ascii.double_quote) }
 {
     !taken && b == b'"'
 }
 
 // Whether a byte is a backslash that takes the next byte.
 fn takes_next(taken: bool, b: u8) -> bool
-    ensures { result ≡ (not taken && b == 92) }
+    ensures { result ≡ (not taken && b == ascii.backslash) }
 {
     !taken && b == b'\\'
 }

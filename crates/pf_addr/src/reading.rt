@@ -27,12 +27,7 @@ fn space_len(text: &[u8]) -> usize
     ensures within { result ≤ length text.now }
     ensures count { result ≡ prefix_len space.is_space text.now }
 {
-    for (i, b) in text.iter().enumerate() {
-        if !is_space(*b) {
-            return i;
-        }
-    }
-    text.len()
+    text.iter().take_while(|b| is_space(**b)).count()
 }
 
 // A path without brackets.

@@ -1,34 +1,36 @@
 -- What led to what, in turn. Each caller's answers rest on led_refl, led_next and one law for each kind of outside call.
 use Rattle.std.proofs.Common.{◌≡◌, ◌+◌, ◌++◌, ℕ, Bool, true, false, List, [], ◌∷◌, Option, None, Some, length, refl, sym, ap, ◌∙◌, subst, arith, append_assoc, append-nil}
-use Rattle.std.specs.Prelude.{if◌then◌else◌}
+use Rattle.std.specs.Prelude.{if◌then◌else◌, ok_or}
 use Rattle.std.proofs.lemmas.List.{get_or_append_left, get_or-append-add, length-append}
-use Rattle.pf_asks.proofs.HeldLaws.{answered_again, few_more, hears_more, hears_nothing, kept_refl, kept_trans, rose_by_none, tells_kept}
+use Rattle.pf_asks.proofs.HeldLaws.{count_more, counted_none, heard_again, hears_call, hears_more, hears_nothing, tells_kept}
 use Rattle.pf_asks.specs.Heard.{Heard, ◌then◌, nothing}
-use Rattle.pf_asks.specs.Clauses.Held.{Answered, Held, Holds, Kept}
+use Rattle.pf_asks.specs.Clauses.Held.{Answered, Held, Hears, Holds, Tells, called}
 use Rattle.pf_asks.specs.Clauses.Led.{Led, Links, Looks, Meant, Same, TablesLed, Uses, UsesTold, World, tried, world}
-use Rattle.pf_asks.specs.Clauses.Looking.{CanFind, Looked, Stays, Tables, look_failed, value_of}
+use Rattle.pf_asks.specs.Clauses.Looking.{CanFind, Looked, Stays, Tables, look_failed, looked_up, value_of}
 use Rattle.pf_asks.specs.Questions.{Ask, Gave, Means, ask, behind, done, look, try, ◌>>=◌}
 use Rattle.pf_asks.specs.Resolving.{Asked, answer_of, ask_failed}
 use Rattle.pf_asks.specs.Wire.{Wire, is_down}
 use Rattle.pf_asks.specs.declared.links.Outcome.{Outcome}
 use Rattle.pf_asks.specs.declared.links.Request.{Request}
+use Rattle.pf_asks.specs.declared.lookup.Found.{Found}
+use Rattle.pf_asks.specs.declared.lookup.TableFault.TheVariants.{Fails}
 use Rattle.pf_asks.specs.declared.resolver.Kind.{Kind}
 use Rattle.pf_asks.specs.declared.resolver.Row.{Row}
 use Rattle.pf_base.specs.declared.table_texts.TableId.{TableId}
 
-then_assoc : (a b c : Heard) → (a then b) then c ≡ a then (b then c)
+pub then_assoc : (a b c : Heard) → (a then b) then c ≡ a then (b then c)
 then_assoc a b c = rw (append_assoc a.looks b.looks c.looks, append_assoc a.tries b.tries c.tries, append_assoc a.asks b.asks c.asks) refl
 
-behind_behind : {A : Type 0} (xs ys : List Request) (gave : Gave A) → behind xs (behind ys gave) ≡ behind (xs ++ ys) gave
+pub behind_behind : {A : Type 0} (xs ys : List Request) (gave : Gave A) → behind xs (behind ys gave) ≡ behind (xs ++ ys) gave
 behind_behind xs ys gave = ap (λ asked. record gave { asked = asked }) (sym (append_assoc xs ys gave.asked))
 
 -- tables
 pub stays_none : (tables : Tables) → Stays 0 tables tables
-stays_none tables = record { kept = kept_refl tables.held; few = omega arith; count = refl; sound = refl }
+stays_none tables = record { later = omega arith; few = omega arith; count = refl; sound = refl }
 
 pub stays_more : {m n : ℕ} {a b c : Tables} → Stays m a b → Stays n b c → Stays (m + n) a c
 stays_more first second = record {
-  kept = kept_trans first.kept second.kept;
+  later = omega (arith, first.later, second.later);
   few = omega (arith, first.few, second.few);
   count = second.count ∙ first.count;
   sound = second.sound ∙ first.sound;
@@ -41,10 +43,10 @@ can_find_kept stays can = record {
   there = λ k d lt. rw (← stays.count) at (can.there k d lt);
 }
 
-looks_nothing : (tables : Tables) → Looks tables tables []
+pub looks_nothing : (tables : Tables) → Looks tables tables []
 looks_nothing tables = record { stays = stays_none tables; hears = hears_nothing tables.held }
 
-looks_more : {a b c : Tables} {xs ys : List (Option Looked)} → Looks a b xs → Looks b c ys → Looks a c (xs ++ ys)
+pub looks_more : {a b c : Tables} {xs ys : List (Option Looked)} → Looks a b xs → Looks b c ys → Looks a c (xs ++ ys)
 looks_more {xs = xs} {ys} first second = record {
   stays = rw (length-append xs ys) (stays_more first.stays second.stays);
   hears = hears_more first.hears second.hears;
@@ -70,21 +72,20 @@ uses_told_more (Some wire) mid new asked more heard others first second =
     let next = rw first.1 at second in
     (next.0, next.1, uses_more wire first.0 next.0 asked more heard others first.2 next.2)
 
-links_nothing : (links : Held Wire) → Links links links [] []
-links_nothing links = record { later = omega arith; few = rose_by_none links.faults; uses = uses_told_none links.content }
+pub links_nothing : (links : Held Wire) → Links links links [] []
+links_nothing links = record { faults = counted_none links.faults; uses = uses_told_none links.content }
 
-links_more : {a b c : Held Wire} {xs ys : List Request} {heard others : List Outcome}
+pub links_more : {a b c : Held Wire} {xs ys : List Request} {heard others : List Outcome}
     → Links a b xs heard → Links b c ys others → Links a c (xs ++ ys) (heard ++ others)
 links_more {a = a} {b} {c} {xs} {ys} {heard} {others} first second = record {
-  later = omega (arith, first.later, second.later);
-  few = few_more is_down heard others a.faults b.faults c.faults first.few second.few;
+  faults = count_more is_down heard others a.faults b.faults c.faults first.faults second.faults;
   uses = uses_told_more a.content b.content c.content xs ys heard others first.uses second.uses;
 }
 
 -- what the objects mean, they mean after calls too
-meant_kept : {old new : World} {means : Means} → Kept old.tables.held new.tables.held → Kept old.resolver new.resolver
+pub meant_kept : (old new : World) {means : Means} → new.tables.held.content ≡ old.tables.held.content → new.resolver.content ≡ old.resolver.content
     → Meant old means → Meant new means
-meant_kept {means = means} tables resolver meant = record {
+meant_kept old new {means = means} tables resolver meant = record {
   values = tells_kept means.values tables meant.values;
   rows = tells_kept means.rows resolver meant.rows;
 }
@@ -110,7 +111,7 @@ led_trans {a = a} {b} {c} {p} {q} {r} f g = record {
   is = λ means meant more.
       ap (p means) (then_assoc f.heard g.heard more)
       ∙ f.is means meant (g.heard then more)
-      ∙ ap (behind f.asked) (g.is means (meant_kept f.tables.hears.kept f.resolver.kept meant) more)
+      ∙ ap (behind f.asked) (g.is means (meant_kept a b f.tables.hears.kept f.resolver.kept meant) more)
       ∙ behind_behind f.asked g.asked (r means more);
 }
 
@@ -151,33 +152,63 @@ led_true test q r e led = rw (← e) at led
 pub led_false : {A : Type 0} {a b : World} {p : Ask A} (test : Bool) (q r : Ask A) → false ≡ test → Led a b p (if test then q else r) → Led a b p r
 led_false test q r e led = rw (← e) at led
 
+-- no table means that it fails from outside, and no resolver
+look_works : (meant : Option Found) → look_failed (ok_or meant Fails) ≡ false
+look_works None = refl
+look_works (Some found) = refl
+
+-- an object means something, told or not
+abbrev pub meant_by : {C : Type 0} → Option C → C → C
+meant_by None other = other
+meant_by (Some told) other = told
+
+pub tells_meant : {C : Type 0} (content : Option C) (other : C) → Tells content (meant_by content other)
+tells_meant None other = tt
+tells_meant (Some told) other = refl
+
+pub stays_once : (old : Tables) (result : Looked) → Stays 1 old (looked_up result old)
+stays_once old result = record { later = omega arith; few = omega arith; count = refl; sound = refl }
+
+looks_once : (old : Tables) (result : Looked) (id : ℕ) (key : List ℕ) (answered : Answered look_failed old.held.content (value_of id key) result)
+    → Looks old (looked_up result old) (answered.heard ∷ [])
+looks_once old result id key answered = record {
+  stays = stays_once old result;
+  hears = hears_call old.held (value_of id key) result (λ told. look_works (told id key)) (meant_by old.held.content (λ id key. None))
+      (tells_meant old.held.content (λ id key. None)) answered;
+}
+
 -- a lookup
 pub led_look : {old new : Tables} {result : Looked} (id : ℕ) (key : List ℕ) (w : World)
-    → Stays 1 old new → Answered look_failed old.held new.held (value_of id key) result
+    → new ≡ looked_up result old → Answered look_failed old.held.content (value_of id key) result
     → Led (record w { tables = old }) (record w { tables = new }) (look id key) (done result)
 unfolding look done
-led_look id key w stays answered = record {
+led_look {old = old} {result = result} id key w stays answered = rw stays (record {
   heard = record { looks = answered.heard ∷ []; tries = []; asks = [] };
   asked = [];
-  tables = record { stays = stays; hears = answered.hears };
+  tables = looks_once old result id key answered;
   links = links_nothing w.links;
   resolver = hears_nothing w.resolver;
   is = λ means meant more. ap (λ x. record { answer = x; left = more; asked = [] }) (sym (answered.is means.values meant.values));
-}
+})
+
+asks_once : (old : Held (List Row)) (result : Asked) (name : List ℕ) (kind : Kind) (answered : Answered ask_failed old.content (answer_of name kind) result)
+    → Hears ask_failed old (called (ask_failed result) old) (answered.heard ∷ [])
+asks_once old result name kind answered =
+    hears_call old (answer_of name kind) result (λ told. refl) (meant_by old.content []) (tells_meant old.content []) answered
 
 -- a question to the resolver
 pub led_ask : {old new : Held (List Row)} {result : Asked} (name : List ℕ) (kind : Kind) (w : World)
-    → Answered ask_failed old new (answer_of name kind) result
+    → new ≡ called (ask_failed result) old → Answered ask_failed old.content (answer_of name kind) result
     → Led (record w { resolver = old }) (record w { resolver = new }) (ask name kind) (done result)
 unfolding ask done
-led_ask name kind w answered = record {
+led_ask {old = old} {result = result} name kind w stays answered = rw stays (record {
   heard = record { looks = []; tries = []; asks = answered.heard ∷ [] };
   asked = [];
   tables = looks_nothing w.tables;
   links = links_nothing w.links;
-  resolver = answered.hears;
+  resolver = asks_once old result name kind answered;
   is = λ means meant more. ap (λ x. record { answer = x; left = more; asked = [] }) (sym (answered.is means.rows meant.rows));
-}
+})
 
 -- a try of a policy service
 pub led_try : {old new : Held Wire} {outcome : Outcome} (service text : List ℕ) (w : World)
@@ -195,19 +226,16 @@ led_try {outcome = outcome} service text w links = record {
 
 -- within one question an answer that is no failure may be kept and used again: a definition that looks the key up again is answered by
 -- it, and no call is made
-pub led_again : (id : ℕ) (key : List ℕ) (result : Looked) (w : World) → Holds look_failed w.tables.held (value_of id key) result
+pub led_again : (id : ℕ) (key : List ℕ) (result : Looked) (w : World) → Holds look_failed w.tables.held.content (value_of id key) result
     → Led w w (look id key) (done result)
 unfolding look done
-led_again id key result w holds = let answered = answered_again w.tables.held (value_of id key) result holds in record {
-  heard = record { looks = answered.heard ∷ []; tries = []; asks = [] };
+led_again id key result w holds = let again = heard_again w.tables.held (value_of id key) result holds in record {
+  heard = record { looks = again.0 ∷ []; tries = []; asks = [] };
   asked = [];
-  tables = record {
-    stays = record { kept = kept_refl w.tables.held; few = omega arith; count = refl; sound = refl };
-    hears = answered.hears;
-  };
+  tables = record { stays = record { later = omega arith; few = omega arith; count = refl; sound = refl }; hears = again.1 };
   links = links_nothing w.links;
   resolver = hears_nothing w.resolver;
-  is = λ means meant more. ap (λ x. record { answer = x; left = more; asked = [] }) (sym (answered.is means.values meant.values));
+  is = λ means meant more. ap (λ x. record { answer = x; left = more; asked = [] }) (sym (again.2 means.values meant.values));
 }
 
 -- tables beside services and a resolver that tell nothing
@@ -215,7 +243,7 @@ abbrev pub alone : Tables → World
 alone tables = world tables (record { content = None; faults = 0 }) (record { content = None; faults = 0 })
 
 -- tables that have led somewhere mean what they meant, and can be looked up as before
-pub tables_kept : {A : Type 0} (old new : Tables) (p q : Ask A) → TablesLed old new p q → Kept old.held new.held
+pub tables_kept : {A : Type 0} (old new : Tables) (p q : Ask A) → TablesLed old new p q → new.held.content ≡ old.held.content
 tables_kept old new p q led = (led (alone old)).tables.hears.kept
 
 pub led_can_find : {A : Type 0} {a b : World} {p q : Ask A} {ids : List TableId} → Led a b p q → CanFind a.tables ids → CanFind b.tables ids

@@ -52,26 +52,36 @@ with_sent wire front last piece = record wire { tries = front ++ (record last { 
 abbrev pub with_left : Wire → Open → List ℕ → Wire
 with_left wire one left = record wire { opened = Some (record one { left = left }) }
 
--- a connect begins a try and fails exactly where its outcome says so
+-- a connect begins a try and fails exactly where its outcome says so; after want of memory the try is begun, or none is open
 abbrev pub Connects : {T : Type 0} → Option Wire → Option Wire → Result T OuterFault → List ℕ → Type 0
 Connects None new result service = new ≡ None
 Connects (Some wire) new result service = MatchResult result
     (λ _. (new ≡ Some (begun service wire)) × ((next_outcome wire.outcomes).0 ≢ Down Connect))
     (λ fault. ((fault ≡ Failed) → (new ≡ Some (begun service wire)) × ((next_outcome wire.outcomes).0 ≡ Down Connect))
-    × ((fault ≡ NoMemory) → (new ≡ Some (begun service wire)) ⊎ (new ≡ Some wire)))
+    × ((fault ≡ NoMemory) → (new ≡ Some (begun service wire)) ⊎ (new ≡ Some (hung_up wire))))
 
--- a send adds the piece to what the open try was sent; a refused one adds a front of it, and fails exactly where the outcome says so
-abbrev pub Sends : {T : Type 0} → Option Wire → Option Wire → Result T OuterFault → List ℕ → Type 0
-Sends None new result piece = new ≡ None
-Sends (Some wire) new result piece = (one : Open) (front : List Request) (last : Request) → wire.opened ≡ Some one → wire.tries ≡ front ++ (last ∷ [])
+-- a send adds the piece to what the open try was sent; a refused one adds a front of it, and fails exactly where the outcome says so.
+-- Where no try is open it is refused, and nothing changes.
+abbrev pub SendsIn : {T : Type 0} → Option Open → Wire → Option Wire → Result T OuterFault → List ℕ → Type 0
+SendsIn None wire new result piece = MatchResult result (λ _. ⊥) (λ _. new ≡ Some wire)
+SendsIn (Some one) wire new result piece = (front : List Request) (last : Request) → wire.tries ≡ front ++ (last ∷ [])
     → MatchResult result
     (λ _. (new ≡ Some (with_sent wire front last piece)) × (one.outcome ≢ Down Send))
     (λ fault. (n : ℕ) × (new ≡ Some (with_sent wire front last (take n piece))) × ((fault ≡ Failed) → one.outcome ≡ Down Send))
 
--- a receive takes the bytes that it puts into the buffer, none at the end alone, and fails exactly where the outcome says so
-abbrev pub Receives : {E : Type 0} → Option Wire → Option Wire → Result ℕ E → List ℕ → Type 0
-Receives None new result buf = new ≡ None
-Receives (Some wire) new result buf = (one : Open) → wire.opened ≡ Some one → MatchResult result
+abbrev pub Sends : {T : Type 0} → Option Wire → Option Wire → Result T OuterFault → List ℕ → Type 0
+Sends None new result piece = new ≡ None
+Sends (Some wire) new result piece = SendsIn wire.opened wire new result piece
+
+-- a receive takes the bytes that it puts into the buffer, none at the end alone, and fails exactly where the outcome says so. Where no
+-- try is open it fails, and nothing changes.
+abbrev pub ReceivesIn : {E : Type 0} → Option Open → Wire → Option Wire → Result ℕ E → List ℕ → Type 0
+ReceivesIn None wire new result buf = MatchResult result (λ _. ⊥) (λ _. new ≡ Some wire)
+ReceivesIn (Some one) wire new result buf = MatchResult result
     (λ n. (left : List ℕ) × (new ≡ Some (with_left wire one left)) × (one.left ≡ take n buf ++ left) × (n ≡ 0 → 0 < length buf → one.left ≡ [])
     × (one.outcome ≢ Down Receive))
     (λ _. (new ≡ Some wire) × (one.outcome ≡ Down Receive))
+
+abbrev pub Receives : {E : Type 0} → Option Wire → Option Wire → Result ℕ E → List ℕ → Type 0
+Receives None new result buf = new ≡ None
+Receives (Some wire) new result buf = ReceivesIn wire.opened wire new result buf

@@ -4,8 +4,12 @@
 
 mod links;
 mod lookup;
+mod memory;
+mod memory_links;
 mod resolver;
 
 pub use links::{LinkStep, Links, Outcome, Request};
 pub use lookup::{Found, Lookup, TableFault};
+pub use memory::MemResolver;
+pub use memory_links::MemLinks;
 pub use resolver::{Answer, AskFault, Kind, Resolver, Row};

@@ -2,7 +2,7 @@
 ghost use Rattle.std.specs.Prelude.{◌≡◌, ◌<◌, true};
 ghost use Rattle.pf_base.specs.Clauses.Unless.{Unless};
 ghost use Rattle.pf_asks.specs.Clauses.Held.{Answered};
-ghost use Rattle.pf_asks.specs.Clauses.Looking.{Stays, Tables, look_failed, value_of};
+ghost use Rattle.pf_asks.specs.Clauses.Looking.{Tables, look_failed, looked_up, value_of};
 
 use pf_base::{Bytes, TableId};
 use std::alloc::Global;
@@ -33,10 +33,11 @@ pub trait Lookup {
     /// whether they are as they were when they were opened.
     ghost tables: { Self → Tables };
 
-    /// The value of a key. `Fails` comes only where the table means that; `Failed` only where the count of faults rose.
+    /// The value of a key. Each lookup is counted. `Fails` comes only where the table means that; `Failed` exactly where the
+    /// count of faults goes up, by one.
     fn find(&mut self, alloc: Global, id: TableId, key: &[u8]) -> Result<Found, TableFault>
         requires sound { (tables self.old).sound ≡ true }
         requires there { id.0 < (tables self.old).count }
-        ensures stays { Stays 1 (tables self.old) (tables self.new) }
-        ensures answered { Unless result TableFault.NoMemory (Answered look_failed (tables self.old).held (tables self.new).held (value_of id.0 key.now)) };
+        ensures stays { tables self.new ≡ looked_up result (tables self.old) }
+        ensures answered { Unless result TableFault.NoMemory (Answered look_failed (tables self.old).held.content (value_of id.0 key.now)) };
 }

@@ -1,9 +1,9 @@
 //! A resolver of names (RFC 1034, 5).
 ghost use Rattle.pf_base.specs.Clauses.Unless.{Unless};
-ghost use Rattle.pf_asks.specs.Clauses.Held.{Answered, Held, Kept};
+ghost use Rattle.pf_asks.specs.Clauses.Held.{Answered, Held, called};
 ghost use Rattle.pf_asks.specs.Resolving.{HasValues, answer_of, ask_failed};
 ghost use Rattle.pf_asks.specs.declared.resolver.Row.{Row};
-ghost use Rattle.std.specs.Prelude.{List as Seq, IfOk};
+ghost use Rattle.std.specs.Prelude.{◌≡◌, List as Seq, IfOk};
 
 use pf_base::{Bytes, List};
 use std::alloc::Global;
@@ -52,9 +52,9 @@ pub trait Resolver {
     ghost held: { Self → Held (Seq Row) };
 
     /// The answer of the first row of this kind and name, a letter counting as the same in either case; `Missing` where
-    /// there is none. `Failed` comes only where the count of faults rose.
+    /// there is none. `Failed` comes exactly where the count of faults goes up, by one.
     fn ask(&mut self, alloc: Global, name: &[u8], kind: Kind) -> Result<Answer, AskFault>
-        ensures kept { Kept (held self.old) (held self.new) }
+        ensures stays { held self.new ≡ called (ask_failed result) (held self.old) }
         ensures values { IfOk result HasValues }
-        ensures answered { Unless result AskFault.NoMemory (Answered ask_failed (held self.old) (held self.new) (answer_of name.now kind)) };
+        ensures answered { Unless result AskFault.NoMemory (Answered ask_failed (held self.old).content (answer_of name.now kind)) };
 }

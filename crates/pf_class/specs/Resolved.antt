@@ -23,7 +23,8 @@ has_byte byte local = list_any (λ b. b == byte) local
 -- a local part has an operator in it, whether it parts or not
 unfoldable pub holds_operator : Rules → List ℕ → Bool
 holds_operator rules local =
-    has_byte 64 local || (rules.swap_bangpath && has_byte 33 local) || (rules.allow_percent_hack && has_byte 37 local)
+    has_byte ascii.at_sign local || (rules.swap_bangpath && has_byte ascii.exclamation_mark local)
+    || (rules.allow_percent_hack && has_byte ascii.percent_sign local)
 
 -- a domain is one of the names of mydestination
 abbrev pub is_local : List (List ℕ) → List ℕ → Bool

@@ -1,17 +1,20 @@
 -- What contracts say of a call that asks: it led from one question to another. Words of contracts, by no standard.
-use Rattle.std.specs.Prelude.{◌≡◌, ◌≤◌, ◌+◌, ◌++◌, ℕ, List, [], ◌∷◌, Option, None, Some, Err, take, length}
+use Rattle.std.specs.Prelude.{◌≡◌, ◌≢◌, ◌≤◌, ◌+◌, ◌⊎◌, ◌++◌, ℕ, false, List, [], ◌∷◌, Option, None, Some, Result, Ok, Err, MatchResult, take, length}
 use Rattle.std.specs.List.{count_by}
+use Rattle.pf_base.specs.Clauses.Causes.{counted_by}
 use Rattle.pf_asks.specs.Heard.{Heard, ◌then◌}
-use Rattle.pf_asks.specs.Clauses.Held.{Held, Hears, RoseBy, Tells, failures}
-use Rattle.pf_asks.specs.Clauses.Looking.{Looked, Stays, Tables, look_failed}
-use Rattle.pf_asks.specs.Questions.{Ask, Means, behind, done}
-use Rattle.pf_asks.specs.Resolving.{ask_failed}
+use Rattle.pf_asks.specs.Clauses.Held.{Held, Hears, Tells, called}
+use Rattle.pf_asks.specs.Clauses.Looking.{Looked, Stays, Tables, look_failed, looked_up}
+use Rattle.pf_asks.specs.Questions.{Ask, Means, ask, behind, done, look, try, ◌>>=◌}
+use Rattle.pf_asks.specs.Resolving.{Asked, ask_failed}
 use Rattle.pf_asks.specs.Tries.{Try}
-use Rattle.pf_asks.specs.Wire.{Wire, is_down, next_outcome}
+use Rattle.pf_asks.specs.Wire.{Wire, hung_up, is_down, next_outcome}
 use Rattle.pf_asks.specs.declared.links.LinkStep.TheVariants.{Connect, Send, Receive}
 use Rattle.pf_asks.specs.declared.links.Outcome.{Outcome}
 use Rattle.pf_asks.specs.declared.links.Outcome.TheVariants.{Down, Reply}
 use Rattle.pf_asks.specs.declared.links.Request.{Request}
+use Rattle.pf_asks.specs.declared.lookup.TableFault.TheVariants.{NoMemory}
+use Rattle.pf_asks.specs.declared.resolver.Kind.{Kind}
 use Rattle.pf_asks.specs.declared.resolver.Row.{Row}
 
 -- what was sent of a request: nothing where the connection was refused, a front where sending failed, else all of it
@@ -47,10 +50,9 @@ pub record Looks (old new : Tables) (heard : List (Option Looked)) : Type 0 wher
   pub stays : Stays (length heard) old new
   pub hears : Hears look_failed old.held new.held heard
 
--- this was heard of some tries; at most as many were down as the count of faults rose
+-- this was heard of some tries; just as many were down as the count of faults rose
 pub record Links (old new : Held Wire) (asked : List Request) (heard : List Outcome) : Type 0 where
-  pub later : old.faults ≤ new.faults
-  pub few : RoseBy (count_by is_down heard) old.faults new.faults
+  pub faults : new.faults ≡ counted_by (count_by is_down heard) old.faults
   pub uses : UsesTold old.content asked heard new.content
 
 -- what is asked: tables, policy services, and a resolver
@@ -102,6 +104,76 @@ ByLinks old new p x = LinksLed old new p (done x)
 abbrev pub ByResolver : {A : Type 0} → Held (List Row) → Held (List Row) → Ask A → A → Type 0
 ByResolver old new p x = ResolverLed old new p (done x)
 
+-- a try that want of memory broke off: none was begun, or a front of its request was sent; it is over, and counted no fault
+abbrev pub IsCut : Option Wire → Option Wire → List ℕ → List ℕ → Type 0
+IsCut None new service text = new ≡ None
+IsCut (Some wire) new service text = (new ≡ Some (hung_up wire)) ⊎ ((n : ℕ) × (new ≡ Some (tried service (take n text) wire)))
+
+pub record Cut (old new : Held Wire) (service text : List ℕ) : Type 0 where
+  pub faults : new.faults ≡ old.faults
+  pub wire : IsCut old.content new.content service text
+
+-- the question had come down to a lookup, which wanted memory
+pub record WantsAtLookup {A : Type 0} (old new : World) (p : Ask A) : Type 0 where
+  pub mid : World
+  pub id : ℕ
+  pub key : List ℕ
+  pub more : Looked → Ask A
+  pub led : Led old mid p (look id key >>= more)
+  pub left : new ≡ record mid { tables = looked_up (Err NoMemory) mid.tables }
+
+-- or to a question to the resolver
+pub record WantsAtName {A : Type 0} (old new : World) (p : Ask A) : Type 0 where
+  pub mid : World
+  pub name : List ℕ
+  pub kind : Kind
+  pub more : Asked → Ask A
+  pub led : Led old mid p (ask name kind >>= more)
+  pub left : new ≡ record mid { resolver = called false mid.resolver }
+
+-- or to a try
+pub record WantsAtTry {A : Type 0} (old new : World) (p : Ask A) : Type 0 where
+  pub mid : World
+  pub links : Held Wire
+  pub service : List ℕ
+  pub text : List ℕ
+  pub more : Outcome → Ask A
+  pub led : Led old mid p (try service text >>= more)
+  pub cut : Cut mid.links links service text
+  pub left : new ≡ record mid { links = links }
+
+-- want of memory broke a question off
+abbrev pub BrokenOff : {A : Type 0} → World → World → Ask A → Type 0
+BrokenOff old new p = WantsAtLookup old new p ⊎ (WantsAtName old new p ⊎ WantsAtTry old new p)
+
+-- it broke off a question of tables alone, of policy services, or of the resolver
+abbrev pub TablesBroken : {A : Type 0} → Tables → Tables → Ask A → Type 0
+TablesBroken old new p = (w : World) → BrokenOff (record w { tables = old }) (record w { tables = new }) p
+
+abbrev pub LinksBroken : {A : Type 0} → Held Wire → Held Wire → Ask A → Type 0
+LinksBroken old new p = (w : World) → BrokenOff (record w { links = old }) (record w { links = new }) p
+
+abbrev pub ResolverBroken : {A : Type 0} → Held (List Row) → Held (List Row) → Ask A → Type 0
+ResolverBroken old new p = (w : World) → BrokenOff (record w { resolver = old }) (record w { resolver = new }) p
+
+-- a call answered the question, or want of memory broke it off
+abbrev pub Asks : {A E : Type 0} → World → World → Ask A → Result A E → Type 0
+Asks old new p result = MatchResult result (Answers old new p) (λ _. BrokenOff old new p)
+
+abbrev pub AsksTables : {A E : Type 0} → Tables → Tables → Ask A → Result A E → Type 0
+AsksTables old new p result = MatchResult result (ByTables old new p) (λ _. TablesBroken old new p)
+
+abbrev pub AsksLinks : {A E : Type 0} → Held Wire → Held Wire → Ask A → Result A E → Type 0
+AsksLinks old new p result = MatchResult result (ByLinks old new p) (λ _. LinksBroken old new p)
+
+abbrev pub AsksResolver : {A E : Type 0} → Held (List Row) → Held (List Row) → Ask A → Result A E → Type 0
+AsksResolver old new p result = MatchResult result (ByResolver old new p) (λ _. ResolverBroken old new p)
+
+-- the same of tables and a question that a fault may end, where this fault is want of memory
+abbrev pub TriesTables : {A E : Type 0} → Tables → Tables → E → Try E A → Result A E → Type 0
+TriesTables old new no_memory p result = MatchResult result (λ x. ByTables old new p (Ok x))
+    (λ fault. (fault ≢ no_memory → ByTables old new p (Err fault)) × (fault ≡ no_memory → TablesBroken old new p))
+
 -- two questions are answered alike
 pub record Same {A : Type 0} (p q : Ask A) : Type 0 where
   pub same : (means : Means) (heard : Heard) → p means heard ≡ q means heard
@@ -109,9 +181,3 @@ pub record Same {A : Type 0} (p q : Ask A) : Type 0 where
 -- a question makes at most so many lookups
 pub record AtMost {A : Type 0} (n : ℕ) (p : Ask A) : Type 0 where
   pub looks : (means : Means) (heard : Heard) → length heard.looks ≤ length (p means heard).left.looks + n
-
--- this fault comes only where a lookup that is heard failed from outside
-pub record FailsOnly {E A : Type 0} (fault : E) (p : Try E A) : Type 0 where
-  pub fails : (means : Means) (heard : Heard) → (p means heard).answer ≡ Err fault
-      → failures look_failed (p means heard).left.looks + 1 ≤ failures look_failed heard.looks
-  pub less : (means : Means) (heard : Heard) → failures look_failed (p means heard).left.looks ≤ failures look_failed heard.looks

@@ -2,7 +2,8 @@
 use Rattle.std.specs.Prelude.{◌≡◌, ◌<◌, ◌≤◌, ℕ, ◌+◌, Bool, true, false, List, Option, Result, Ok, Err}
 use Rattle.std.specs.List.{All}
 use Rattle.std.specs.Option.{ok_or}
-use Rattle.pf_asks.specs.Clauses.Held.{Held, Kept}
+use Rattle.pf_base.specs.Clauses.Causes.{counted_by}
+use Rattle.pf_asks.specs.Clauses.Held.{Held, called}
 use Rattle.pf_asks.specs.declared.lookup.Found.{Found}
 use Rattle.pf_asks.specs.declared.lookup.TableFault.{TableFault}
 use Rattle.pf_asks.specs.declared.lookup.TableFault.TheVariants.{Fails, Failed, NoMemory}
@@ -35,9 +36,13 @@ pub record Tables : Type 0 where
   pub count : ℕ
   pub sound : Bool
 
--- with at most so many lookups the tables stayed as they were
+-- a lookup was made and answered so: it was counted, and its fault where it failed
+abbrev pub looked_up : Looked → Tables → Tables
+looked_up result old = record old { held = called (look_failed result) old.held; finds = counted_by 1 old.finds }
+
+-- at most so many lookups were made; there are as many tables, and as sound
 pub record Stays (finds : ℕ) (old new : Tables) : Type 0 where
-  pub kept : Kept old.held new.held
+  pub later : old.finds ≤ new.finds
   pub few : new.finds ≤ old.finds + finds
   pub count : new.count ≡ old.count
   pub sound : new.sound ≡ old.sound

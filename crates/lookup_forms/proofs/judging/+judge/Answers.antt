@@ -1,7 +1,8 @@
 use Rattle.std.proofs.Common.{◌≡◌, ◌≢◌, ◌<◌, ◌+◌, ◌-◌, ℕ, zero, suc, List, ◌∷◌, drop, length, sym, refl, ap, arith}
 use Rattle.std.specs.Prelude.{get_or}
 use Rattle.std.proofs.lemmas.List.{at_drop_more, at_drop_all}
-use Rattle.std.proofs.lemmas.Result.{IfOk-weaker}
+use Rattle.std.proofs.lemmas.Result.{err_from_is_err_and}
+use Rattle.pf_asks.proofs.BrokenLaws.{asks_links, asks_resolver, asks_tables, broken_next}
 use Rattle.pf_asks.proofs.LedLaws.{led_next, led_refl}
 use Rattle.pf_asks.specs.Clauses.Led.{world}
 use Rattle.lookup_forms.specs.Restrictions as spec
@@ -60,24 +61,25 @@ list_end-returns g t c =
 pub restriction_end-returns-in-PermitAuthDestination : goal.restriction_end-returns-in-PermitAuthDestination
 unfolding spec.restriction_end
 restriction_end-returns-in-PermitAuthDestination g t c =
-    rw c.in-PermitAuthDestination.is (IfOk-weaker c.permit_auth_destination.result _ _
-    (λ end led. led (world (g.T.Lookup.tables c.args.tables.now) (g.K.Links.held c.args.links.now) (g.R.Resolver.held c.args.resolver.now)))
-    c.permit_auth_destination.ensures)
+    rw c.in-PermitAuthDestination.is (asks_tables _ _ _ c.permit_auth_destination.result (world (g.T.Lookup.tables c.args.tables.now) (g.K.Links.held c.args.links.now) (g.R.Resolver.held c.args.resolver.now)) c.permit_auth_destination.ensures)
 
 pub restriction_end-returns-in-RejectUnknownSenderDomain : goal.restriction_end-returns-in-RejectUnknownSenderDomain
 unfolding spec.restriction_end
 restriction_end-returns-in-RejectUnknownSenderDomain g t c =
-    rw c.in-RejectUnknownSenderDomain.is (IfOk-weaker c.reject_unknown_sender_domain.result _ _
-    (λ end led. led (world (g.T.Lookup.tables c.args.tables.now) (g.K.Links.held c.args.links.now) (g.R.Resolver.held c.args.resolver.now)))
-    c.reject_unknown_sender_domain.ensures)
+    rw c.in-RejectUnknownSenderDomain.is (asks_resolver _ _ _ c.reject_unknown_sender_domain.result (world (g.T.Lookup.tables c.args.tables.now) (g.K.Links.held c.args.links.now) (g.R.Resolver.held c.args.resolver.now)) c.reject_unknown_sender_domain.ensures)
 
 pub restriction_end-returns-in-CheckPolicyService : goal.restriction_end-returns-in-CheckPolicyService
 unfolding spec.restriction_end
 restriction_end-returns-in-CheckPolicyService g t c =
-    rw (c.in-CheckPolicyService.is, ← c.as_slice.ensures) (IfOk-weaker c.check_policy_service.result _ _
-    (λ end led. led (world (g.T.Lookup.tables c.args.tables.now) (g.K.Links.held c.args.links.now) (g.R.Resolver.held c.args.resolver.now)))
-    c.check_policy_service.ensures)
+    rw (c.in-CheckPolicyService.is, ← c.as_slice.ensures) (asks_links _ _ _ c.check_policy_service.result (world (g.T.Lookup.tables c.args.tables.now) (g.K.Links.held c.args.links.now) (g.R.Resolver.held c.args.resolver.now)) c.check_policy_service.ensures)
 
 pub restriction_end-returns-in-Class : goal.restriction_end-returns-in-Class
 unfolding spec.restriction_end
 restriction_end-returns-in-Class g t c = rw c.in-Class.is c.judge.ensures
+
+pub list_end-returns-in_err-restriction_end : goal.list_end-returns-in_err-restriction_end
+unfolding spec.list_end spec.list_with
+list_end-returns-in_err-restriction_end g t c =
+    let p = err_from_is_err_and c.from_residual.result c.from_residual.ensures.1 in
+    let h = rw (next c.args.site.now c.args.domain.now c.args.levels c.args.list.now c.loop-restriction.restriction-index (omega arith)) at c.loop-restriction.invariant in
+    rw p.1 (broken_next _ h c.in_err-restriction_end.ensures)

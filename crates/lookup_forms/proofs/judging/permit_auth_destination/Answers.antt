@@ -1,4 +1,5 @@
 use Rattle.std.proofs.Common.{◌≢◌, sym, ◌∙◌}
+use Rattle.pf_asks.proofs.BrokenLaws.{broken_first}
 use Rattle.pf_asks.proofs.LedLaws.{led_first}
 use Rattle.lookup_forms.specs.Restrictions as spec
 use Rattle.lookup_forms.specs.declared.class.ClassFault.TheVariants.{LookupFailed, NoMemory}
@@ -22,4 +23,8 @@ returns-in-Ok-Other g c = λ w. led_first _ (rw c.in-Ok-Other.field-0-is at (c.i
 pub returns-in-Err-LookupFailed : goal.returns-in-Err-LookupFailed
 unfolding spec.permit_auth_destination
 returns-in-Err-LookupFailed g c = λ w.
-    led_first _ (rw c.in-Err-LookupFailed.field-0-is at (c.in-Err-LookupFailed.ensures (λ e. lookup_failed (sym c.in-Err-LookupFailed.field-0-is ∙ e)) w))
+    led_first _ (rw c.in-Err-LookupFailed.field-0-is at (c.in-Err-LookupFailed.ensures.0 (λ e. lookup_failed (sym c.in-Err-LookupFailed.field-0-is ∙ e)) w))
+
+pub returns-in-Err-NoMemory : goal.returns-in-Err-NoMemory
+unfolding spec.permit_auth_destination
+returns-in-Err-NoMemory g c = λ w. broken_first _ (c.in-Err-NoMemory.ensures.1 c.in-Err-NoMemory.field-0-is w)

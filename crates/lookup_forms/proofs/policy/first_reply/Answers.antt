@@ -1,4 +1,6 @@
 use Rattle.std.proofs.Common.{◌≡◌, ◌<◌, ◌+◌, ◌-◌, ℕ, suc, zero, List, ap, arith}
+use Rattle.std.proofs.lemmas.Result.{err_from_is_err_and}
+use Rattle.pf_asks.proofs.BrokenLaws.{broken_next}
 use Rattle.pf_asks.proofs.LedLaws.{led_next, led_refl}
 use Rattle.lookup_forms.specs.Policy as spec
 use Rattle.lookup_forms.proofs.policy.first_reply.Goals as goal
@@ -32,3 +34,11 @@ returns-in-Some g c = λ w.
 pub returns : goal.returns
 unfolding spec.first_reply
 returns g c = λ w. rw (last c.args.service.now c.args.text.now c.args.tries c.loop.counter (omega (arith, c.loop-test.false))) at (c.loop.invariant w)
+
+pub returns-in_err-reply : goal.returns-in_err-reply
+unfolding spec.first_reply
+returns-in_err-reply g c =
+    let p = err_from_is_err_and c.from_residual.result c.from_residual.ensures.1 in
+    rw p.1 (λ w.
+    let h = rw (next c.args.service.now c.args.text.now c.args.tries c.loop.counter (omega arith)) at (c.loop.invariant w) in
+    broken_next _ h (c.in_err-reply.ensures w))
