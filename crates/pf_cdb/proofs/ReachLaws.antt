@@ -14,24 +14,24 @@ use Rattle.pf_cdb.specs.Written.{filled, put}
 use Rattle.pf_cdb.specs.declared.layout.Slot.{Slot}
 
 -- the step and the place at which a slot is put
-abbrev free_step : List Slot → ℕ → ℕ
+abbrev pub free_step : List Slot → ℕ → ℕ
 free_step slots hash = prefix_len is_used (tried slots hash)
 
-abbrev free_place : List Slot → ℕ → ℕ
+abbrev pub free_place : List Slot → ℕ → ℕ
 free_place slots hash = (hash / 256 + free_step slots hash) % length slots
 
 used_before : (slots : List Slot) (hash k : ℕ) → k < length slots → k < free_step slots hash → is_used (step_slot slots hash k) ≡ true
 used_before slots hash k low less =
     ap is_used (sym (get_tried slots hash k empty low)) ∙ prefix_len_passes is_used (tried slots hash) k empty less
 
-free_low : (slots : List Slot) (hash : ℕ) → count_by is_used slots < length slots → free_step slots hash < length slots
+pub free_low : (slots : List Slot) (hash : ℕ) → count_by is_used slots < length slots → free_step slots hash < length slots
 free_low slots hash room =
     ⊎_elim {A = free_step slots hash < length slots} {B = length slots ≤ free_step slots hash}
     (λ low. low)
     (λ past. absurd (omega (arith, all_used slots hash (λ k low. used_before slots hash k low (omega arith)))))
     (cases_lt (free_step slots hash) (length slots))
 
-is_free : (slots : List Slot) (hash : ℕ) → count_by is_used slots < length slots → is_used (get_or slots (free_place slots hash) empty) ≡ false
+pub is_free : (slots : List Slot) (hash : ℕ) → count_by is_used slots < length slots → is_used (get_or slots (free_place slots hash) empty) ≡ false
 is_free slots hash room =
     let low = free_low slots hash room in
     let within : free_step slots hash < length (tried slots hash) = omega (arith, length_tried slots hash) in
