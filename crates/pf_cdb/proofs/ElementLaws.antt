@@ -1,14 +1,13 @@
 -- The pairs that a written file holds: of each key the first, in their order.
-use Rattle.std.proofs.Common.{◌≡◌, ◌≢◌, ◌+◌, ◌<◌, ◌≤◌, ℕ, suc, Bool, true, false, not, List, [], ◌∷◌, Option, Some, None, cond, length, map, get_or, refl, ap, ◌∙◌, sym, subst, arith, ⊎_elim}
-use Rattle.std.specs.List.{All, AllPairs, Contains, filter, find, range_with_len, sum_by}
+use Rattle.std.proofs.Common.{◌≡◌, ◌≢◌, ◌+◌, ◌<◌, ◌≤◌, ℕ, suc, Bool, true, false, not, List, [], ◌∷◌, Some, cond, length, map, get_or, refl, ap, ◌∙◌, sym, arith, ⊎_elim}
+use Rattle.std.specs.List.{All, Contains, filter, find, range_with_len}
 use Rattle.std.specs.Prelude.{◌==◌, ◌&&◌}
 use Rattle.std.specs.Option.{option_map, option_map_or}
 use Rattle.std.specs.Str.{bytes_eq}
 use Rattle.std.proofs.lemmas.Bool.{and_left, and_right, cases_Bool, eq-eqb, false_from_ne_true, ne_eqb, not_from_false, not_from_true, true≢false}
 use Rattle.std.proofs.lemmas.List.{get_or-map, length-map}
-use Rattle.std.proofs.lemmas.List.Elements.{All-contains, All-filter, All-head, All-map, All-tail, All-weaker, filter_passes}
+use Rattle.std.proofs.lemmas.List.Elements.{All-head, All-tail, All-weaker, filter_passes}
 use Rattle.std.proofs.lemmas.List.Kept.{AllPairs-filter}
-use Rattle.std.proofs.lemmas.List.Sums.{sum_by-cons}
 use Rattle.std.proofs.lemmas.Slice.Eq.{bytes_eq-Decides}
 use Rattle.pf_base.specs.declared.pair.Pair.{Pair}
 use Rattle.pf_cdb.proofs.HeldLaws.{find_there, map_some}
@@ -18,7 +17,7 @@ use Rattle.pf_cdb.proofs.RecordLaws.{IsRecord, RecordsStand, first_record, key_o
 use Rattle.pf_cdb.proofs.WrittenLaws.{Fits}
 use Rattle.pf_cdb.proofs.WrittenSoundLaws.{held_written, records_written, sound_written}
 use Rattle.pf_cdb.specs.Hash.{hash_of}
-use Rattle.pf_cdb.specs.Held.{elements_of, has_key, held, is_held}
+use Rattle.pf_cdb.specs.Held.{elements_of, has_key, is_held}
 use Rattle.pf_cdb.specs.Layout.{key_at, pair_at}
 use Rattle.pf_cdb.specs.Written.{HasDistinctKeys, firsts, placed, record_size, written}
 use Rattle.pf_cdb.specs.declared.layout.Slot.{Slot}

@@ -1,7 +1,7 @@
 -- A table that is filled: of each hash, the slots that it reaches are those that were put, in their order.
-use Rattle.std.proofs.Common.{◌≡◌, ◌≢◌, ◌+◌, ◌*◌, ◌/◌, ◌%◌, ◌<◌, ◌≤◌, ℕ, Bool, true, false, List, [], ◌∷◌, ◌++◌, length, get_or, replicate, set, refl, ap, ◌∙◌, sym, subst, arith, ⊎_elim}
+use Rattle.std.proofs.Common.{◌≡◌, ◌≢◌, ◌+◌, ◌*◌, ◌/◌, ◌%◌, ◌<◌, ◌≤◌, ℕ, Bool, true, false, List, [], ◌∷◌, ◌++◌, length, get_or, replicate, set, ap, ◌∙◌, sym, subst, arith, ⊎_elim}
 use Rattle.std.specs.Prelude.{◌==◌, ◌&&◌, take_while}
-use Rattle.std.specs.List.{All, count_by, filter, find, fold, prefix_len}
+use Rattle.std.specs.List.{All, count_by, filter, find, fold}
 use Rattle.std.proofs.lemmas.Bool.{and_left, and_parts, cases_eq, cases_lt, eqb-true}
 use Rattle.std.proofs.lemmas.List.{append-nil, append_assoc, get_or-replicate, get_or-set_other, get_or-set_same, length-replicate, length-set, same_lists}
 use Rattle.std.proofs.lemmas.List.Elements.{All-head, All-tail, filter-append}

@@ -6,7 +6,7 @@ use Rattle.pf_cdb.specs.Damaged.{first_below, first_damage, first_in_slots, firs
 use Rattle.pf_cdb.specs.Hash.{hash_of}
 use Rattle.pf_cdb.specs.Held.{held, is_held, tried, value_span}
 use Rattle.pf_cdb.specs.Layout.{pair_at, table_of, word}
-use Rattle.pf_cdb.specs.Written.{by_table, filled, put, written}
+use Rattle.pf_cdb.specs.Written.{by_table, filled, firsts, put, written}
 use Rattle.pf_cdb.specs.declared.damage.Damage.TheVariants.{Header, TableRange, SlotRange, RecordRange, WrongHash}
 
 -- hashes
@@ -45,6 +45,10 @@ pair key value = record { key = key; value = value }
 
 abbrev entries : List Pair
 entries = pair (codes "aa") (codes "1") ∷ pair (codes "ii") (codes "2") ∷ pair (codes "qq") (codes "3") ∷ []
+
+-- of two pairs with one key the first counts
+first_of_aa : firsts (entries ++ pair (codes "aa") (codes "9") ∷ []) ≡ entries
+first_of_aa = refl
 
 three_pairs : written entries ≡ file
 unfolding by_table filled hash_of put tried written

@@ -1,6 +1,6 @@
 -- A file that is written is sound, and stands for the pairs that it was written for.
-use Rattle.std.proofs.Common.{◌≡◌, ◌≢◌, ◌+◌, ◌*◌, ◌%◌, ◌<◌, ◌≤◌, ◌^◌, ℕ, Bool, true, List, [], Option, Some, None, length, map, take, get_or, refl, ap, ◌∙◌, sym, subst, arith}
-use Rattle.std.specs.List.{All, Contains, filter, find, range_with_len, sum_by}
+use Rattle.std.proofs.Common.{◌≡◌, ◌≢◌, ◌%◌, ◌<◌, ℕ, true, List, [], length, get_or, refl, ap, ◌∙◌, sym, subst, arith}
+use Rattle.std.specs.List.{All, find}
 use Rattle.std.specs.Prelude.{◌==◌}
 use Rattle.std.specs.Option.{option_map}
 use Rattle.std.specs.Str.{bytes_eq}
@@ -12,7 +12,7 @@ use Rattle.pf_cdb.proofs.FileLaws.{length_written}
 use Rattle.pf_cdb.proofs.PairLaws.{pair_of_key}
 use Rattle.pf_cdb.proofs.ReachLaws.{All-filled}
 use Rattle.pf_cdb.proofs.RecordLaws.{IsPlaced, RecordsStand, all_placed, pairs_found}
-use Rattle.pf_cdb.proofs.RoundLaws.{found_filled, is_of_hash}
+use Rattle.pf_cdb.proofs.RoundLaws.{found_filled}
 use Rattle.pf_cdb.proofs.SearchLaws.{used_is}
 use Rattle.pf_cdb.proofs.SettledLaws.{find_filter}
 use Rattle.pf_cdb.proofs.WrittenLaws.{Fits, IsLow, get_tables, place_fits, records_stand, slot_is, slots_in_is, table_at_is, table_of_is}
@@ -20,7 +20,7 @@ use Rattle.pf_cdb.specs.Hash.{hash_of}
 use Rattle.pf_cdb.specs.Held.{elements_of, empty, has_key, held, is_used, reached}
 use Rattle.pf_cdb.specs.Layout.{key_at, pair_at, slot_of, slots_in, table_of}
 use Rattle.pf_cdb.specs.Sound.{IsSound}
-use Rattle.pf_cdb.specs.Written.{filled, is_of_table, of_table, placed, record_size, records_end, tables_of, tables_size, written}
+use Rattle.pf_cdb.specs.Written.{filled, is_of_table, of_table, placed, tables_of, written}
 use Rattle.pf_cdb.specs.declared.layout.Slot.{Slot}
 
 -- the records of the file
