@@ -14,6 +14,8 @@ mod files;
 #[cfg(test)]
 mod find_tests;
 #[cfg(test)]
+mod opened_tests;
+#[cfg(test)]
 mod plain;
 #[cfg(test)]
 mod sweep_tests;

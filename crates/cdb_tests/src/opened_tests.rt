@@ -1,0 +1,28 @@
+use crate::files::{changed, three_pairs};
+use pf_cdb::{CdbFile, Damage};
+use std::test::Fail;
+
+#[test]
+fn a_kept_file_is_asked(rt: HostRuntime) -> Result<(), Fail> {
+    let alloc = rt.alloc();
+    match CdbFile::new(three_pairs(alloc)?) {
+        Ok(file) => {
+            assert_eq!(rt; file.value(b"ii"), Some(b"2".as_slice()));
+            assert_eq!(rt; file.value(b"i"), None);
+            assert_eq!(rt; file.pairs(alloc)?.len(), 3);
+        }
+        Err(_) => assert!(rt; false, "the file is whole"),
+    }
+    Ok(())
+}
+
+#[test]
+fn a_damaged_file_is_not_kept(rt: HostRuntime) -> Result<(), Fail> {
+    let alloc = rt.alloc();
+    let bytes = changed(alloc, three_pairs(alloc)?.as_slice(), 2048, 255)?;
+    match CdbFile::new(bytes) {
+        Ok(_) => assert!(rt; false, "the file is damaged"),
+        Err(damage) => assert_eq!(rt; damage, Damage::RecordRange { at: 2048 }),
+    }
+    Ok(())
+}
