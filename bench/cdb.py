@@ -5,18 +5,21 @@ usage: bench/cdb.py [ENTRIES]      (1,000,000 where it is left out; a tenth of t
 
 It runs the program of cdb_tests, as `rt run` in that crate's folder leaves it built. For random pairs, some with a key that
 came before, and for the entries of the measurement it looks whether both tools write the same bytes, whether each reads
-the other's file, and what is said of keys that are there and of others. Then it prints processor times and the greatest
-resident memory, ours by theirs. It ends with 1 where a file or an answer differs.
+the other's file, and what is said of keys that are there and of others. With a C compiler it makes each allocation of a few
+small runs fail in turn: a run has to end as if none had failed, or with another status and no output. Then it prints processor
+times and the greatest resident memory, ours by theirs. It ends with 1 where a file, an answer or a run differs.
 """
 import os
 import random
+import shutil
 import subprocess
 import sys
 import tempfile
 import time
 from pathlib import Path
 
-CRATE = Path(__file__).resolve().parent.parent / "crates/cdb_tests"
+HERE = Path(__file__).resolve().parent
+CRATE = HERE.parent / "crates/cdb_tests"
 PROGRAM = str(CRATE / "out/cdb_tests")
 ROUNDS = 40
 PAIRS = 300
@@ -106,6 +109,29 @@ def compare(folder, pairs, absent):
         want(lines(["cdb", "-q", str(ours), os.fsdecode(key)], folder)[0].startswith(value), "a key of our file has another value")
 
 
+def ended(words, shim, fail_at, count):
+    """The status and the output of a run in which one allocation fails; and how many allocations there were."""
+    env = {"LD_PRELOAD": str(shim), "FAIL_AT": str(fail_at), "COUNT_TO": str(count)}
+    done = subprocess.run([PROGRAM, *words], env=env, stdin=subprocess.DEVNULL, capture_output=True, check=False)
+    return (done.returncode, done.stdout), int(count.read_text()) if count.exists() else 0
+
+
+def want_memory(folder, compiler):
+    shim, count, text, file = folder / "shim.so", folder / "count", folder / "few", folder / "few.cdb"
+    subprocess.run([compiler, "-shared", "-fPIC", "-o", shim, HERE / "nth_allocation.c"], check=True)
+    text.write_bytes(b"".join(b"key%d value%d\n" % (n, n) for n in range(20)))
+    run([PROGRAM, "build", str(text)], file)
+    for words in (["build", str(text)], ["check", str(file)], ["list", str(file)], ["ask", str(file), str(text)]):
+        whole, calls = ended(words, shim, 0, count)
+        want(whole[0] == 0 and calls > 0, f"{words[0]} fails where no allocation does")
+        same = 0
+        for call in range(1, calls + 1):
+            now, _ = ended(words, shim, call, count)
+            same += now == whole
+            want(now == whole or now[0] != 0 and now[1] == b"", f"{words[0]}: allocation {call}: {now}")
+        print(f"{words[0]}: {calls} allocations, each made to fail; {same} runs ended as if none had failed")
+
+
 def measure(folder, count):
     pairs = [(b"user%d@dom%d.example.com" % (n, n % 1000), b"value%d" % n) for n in range(count)]
     _, ours, theirs, (our_time, our_peak), (their_time, their_peak) = written(folder, pairs)
@@ -135,6 +161,9 @@ def main():
                 there = {key for key, _ in pairs}
                 compare(folder, pairs, [key for key, _ in random_pairs(source) if key not in there])
             print(f"{ROUNDS} files of random pairs: the same bytes, and each is read by the other")
+            compiler = next((c for c in ("cc", "gcc", "clang") if shutil.which(c)), None)
+            if compiler:
+                want_memory(folder, compiler)
             for size in (count // 10, count):
                 measure(folder, size)
         except Differs as differs:
