@@ -1,5 +1,5 @@
-use crate::files::{changed, three_pairs};
-use pf_cdb::{CdbFile, Damage};
+use crate::files::{changed, pairs, three_pairs};
+use pf_cdb::{CdbFile, Damage, write};
 use std::test::Fail;
 
 #[test]
@@ -23,6 +23,24 @@ fn a_damaged_file_is_not_kept(rt: HostRuntime) -> Result<(), Fail> {
     match CdbFile::new(bytes) {
         Ok(_) => assert!(rt; false, "the file is damaged"),
         Err(damage) => assert_eq!(rt; damage, Damage::RecordRange { at: 2048 }),
+    }
+    Ok(())
+}
+
+#[test]
+fn a_key_is_asked_for_with_a_null_byte(rt: HostRuntime) -> Result<(), Fail> {
+    let alloc = rt.alloc();
+    let entries = pairs(alloc, &[("aa\0", "1\0"), ("ii", "2\0"), ("ii\0", "3")])?;
+    match write(alloc, &entries) {
+        Ok(bytes) => match CdbFile::new(bytes) {
+            Ok(file) => {
+                assert_eq!(rt; file.answer(alloc, b"aa")?, Some(b"1".as_slice()));
+                assert_eq!(rt; file.answer(alloc, b"ii")?, Some(b"2\0".as_slice()));
+                assert_eq!(rt; file.answer(alloc, b"qq")?, None);
+            }
+            Err(_) => assert!(rt; false, "the file is whole"),
+        },
+        Err(_) => assert!(rt; false, "the file is written"),
     }
     Ok(())
 }
