@@ -37,6 +37,8 @@ fn a_key_is_asked_for_with_a_null_byte(rt: HostRuntime) -> Result<(), Fail> {
                 assert_eq!(rt; file.answer(alloc, b"aa")?, Some(b"1".as_slice()));
                 assert_eq!(rt; file.answer(alloc, b"ii")?, Some(b"2\0".as_slice()));
                 assert_eq!(rt; file.answer(alloc, b"qq")?, None);
+                let listed = pairs(alloc, &[("aa", "1"), ("ii", "2\0"), ("ii\0", "3")])?;
+                assert!(rt; file.listed(alloc)?.as_slice() == listed.as_slice());
             }
             Err(_) => assert!(rt; false, "the file is whole"),
         },

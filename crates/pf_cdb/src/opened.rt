@@ -1,5 +1,5 @@
 //! A file that is kept to be asked.
-ghost use Rattle.std.specs.Prelude.{◌≡◌, IfOk, option_copied};
+ghost use Rattle.std.specs.Prelude.{◌≡◌, IfOk, map, option_copied};
 ghost use Rattle.std.specs.Result.{result_err};
 ghost use Rattle.pf_cdb.specs.Asked as asked;
 ghost use Rattle.pf_cdb.specs.Damaged.{first_damage};
@@ -30,14 +30,46 @@ impl Model for CdbFile {
     ghost invariant = { λ file. IsSound file.bytes };
 }
 
-// A text without the null byte at its end.
+// Whether a null byte stands at the end of a text.
+#[tactic(auto, unfolding(crate::specs::Asked::ends_in_null))]
+fn ends_in_null(text: &[u8]) -> bool
+    ensures { result ≡ asked.ends_in_null text.now }
+{
+    text.len() > 0 && text[text.len() - 1] == 0
+}
+
+// A text without it.
 #[tactic(auto, unfolding(crate::specs::Asked::without_null))]
 fn without_null(text: &[u8]) -> &[u8]
     ensures { result.now ≡ asked.without_null text.now }
 {
-    match text {
-        [front @ .., 0] => front,
-        _ => text,
+    if ends_in_null(text) {
+        &text[..text.len() - 1]
+    } else {
+        text
+    }
+}
+
+fn pair_of(alloc: Global, key: &[u8], value: &[u8]) -> Result<Pair, NoMemory>
+    ensures { IfOk result (λ pair. pair ≡ record { key = key.now; value = value.now }) }
+{
+    Ok(Pair {
+        key: Bytes::from_slice(alloc, key)?,
+        value: Bytes::from_slice(alloc, value)?,
+    })
+}
+
+// A pair as it is listed.
+#[tactic(auto, unfolding(crate::specs::Asked::listed_pair))]
+fn listed_pair(alloc: Global, pair: &Pair) -> Result<Pair, NoMemory>
+    ensures { IfOk result (λ listed. listed ≡ asked.listed_pair pair.now) }
+{
+    let key = pair.key.as_slice();
+    let value = pair.value.as_slice();
+    if ends_in_null(key) && ends_in_null(value) {
+        pair_of(alloc, without_null(key), without_null(value))
+    } else {
+        pair_of(alloc, key, value)
     }
 }
 
@@ -83,5 +115,17 @@ impl CdbFile {
         ensures { IfOk result (λ pairs. pairs ≡ elements_of self.now) }
     {
         elements(alloc, self.bytes.as_slice())
+    }
+    /// Its pairs as they are listed, in the order of their records: without the null bytes behind a key and its value, where
+    /// both have one.
+    pub fn listed(&self, alloc: Global) -> Result<List<Pair>, NoMemory>
+        ensures { IfOk result (λ pairs. pairs ≡ map asked.listed_pair (elements_of self.now)) }
+    {
+        let pairs = self.pairs(alloc)?;
+        let mut listed = List::new(alloc);
+        for pair in pairs.as_slice() {
+            listed.push(listed_pair(alloc, pair)?)?;
+        }
+        Ok(listed)
     }
 }
