@@ -1069,6 +1069,15 @@ BUGS = [
     ('pf_cdb', 'value_is_the_key', 'listing', 'pair_at',
      '&file[value.start as usize..value.end as usize]',
      'key_at(file, at)'),
+    ('pf_cdb', 'damaged_file_is_kept', 'opened', 'CdbFile::new',
+     'check(bytes.as_slice())?;',
+     'let _ = check(bytes.as_slice());'),
+    ('pf_cdb', 'null_byte_behind_the_value_is_kept', 'opened', 'CdbFile::answer',
+     'Some(value) => Ok(Some(without_null(value))),',
+     'Some(value) => Ok(Some(value)),'),
+    ('pf_cdb', 'null_byte_of_a_key_alone_is_not_listed', 'opened', 'listed_pair',
+     'if ends_in_null(key) && ends_in_null(value) {',
+     'if ends_in_null(key) {'),
 ]
 
 
