@@ -1,5 +1,5 @@
 //! Files as another writer may have written them, byte by byte.
-use pf_base::{Bytes, NoMemory};
+use pf_base::{Bytes, List, NoMemory, Pair};
 use pf_cdb::{check, find};
 use std::alloc::Global;
 
@@ -66,4 +66,16 @@ pub fn value<'a>(file: &'a [u8], key: &[u8]) -> Option<&'a [u8]> {
         },
         Err(_) => None,
     }
+}
+
+/// Pairs of these keys and values.
+pub fn pairs(alloc: Global, items: &[(&str, &str)]) -> Result<List<Pair>, NoMemory> {
+    let mut pairs = List::new(alloc);
+    for (key, value) in items {
+        pairs.push(Pair {
+            key: Bytes::from_slice(alloc, key.as_bytes())?,
+            value: Bytes::from_slice(alloc, value.as_bytes())?,
+        })?;
+    }
+    Ok(pairs)
 }

@@ -1,19 +1,7 @@
-use crate::files::three_pairs;
-use pf_base::{Bytes, List, NoMemory, Pair};
+use crate::files::{pairs, three_pairs};
+use pf_base::List;
 use pf_cdb::write;
-use std::alloc::Global;
 use std::test::Fail;
-
-fn pairs(alloc: Global, items: &[(&str, &str)]) -> Result<List<Pair>, NoMemory> {
-    let mut pairs = List::new(alloc);
-    for (key, value) in items {
-        pairs.push(Pair {
-            key: Bytes::from_slice(alloc, key.as_bytes())?,
-            value: Bytes::from_slice(alloc, value.as_bytes())?,
-        })?;
-    }
-    Ok(pairs)
-}
 
 #[test]
 fn three_pairs_are_written(rt: HostRuntime) -> Result<(), Fail> {

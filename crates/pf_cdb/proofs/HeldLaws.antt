@@ -24,7 +24,7 @@ find_there p xs x h =
     let at = get_or_from_slice_get xs (position_or_len p xs) x x e in
     (position_or_len p xs, within, at, sym (ap p at) ∙ passes_at_first p xs x within)
 
-map_some : {X Y : Type 0} (f : X → Y) (o : Option X) (y : Y) → option_map f o ≡ Some y → (x : X) × (o ≡ Some x) × (f x ≡ y)
+pub map_some : {X Y : Type 0} (f : X → Y) (o : Option X) (y : Y) → option_map f o ≡ Some y → (x : X) × (o ≡ Some x) × (f x ≡ y)
 map_some f None y h = absurd (cc)
 map_some f (Some x) y h = (x, refl, cc)
 

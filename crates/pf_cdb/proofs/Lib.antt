@@ -1,5 +1,6 @@
 pub mod BucketLaws
 pub mod DamageLaws
+pub mod ElementLaws
 pub mod FileLaws
 pub mod FirstLemmas
 pub mod HeldLaws
@@ -9,7 +10,12 @@ pub mod PairLaws
 pub mod PlaceLaws
 pub mod RangeLaws
 pub mod ReachLaws
+pub mod RecordLaws
+pub mod RoundLaws
 pub mod Rows
 pub mod SearchLaws
+pub mod SettledLaws
 pub mod StandsLaws
 pub mod WordLemmas
+pub mod WrittenLaws
+pub mod WrittenSoundLaws

@@ -15,3 +15,9 @@ unless_written entries (Ok file) is fits large =
 unless_written entries (Err TooLarge) is fits large =
     λ _. sym (ap (λ b. cond b (Err TooLarge) (Ok (written entries))) (lt-ltb 67108864 (length (written entries)) (large refl)))
 unless_written entries (Err NoMemory) is fits large = λ other. absurd (other refl)
+
+-- what holds of the file that is written for the pairs, where it is not too large, holds of the answer
+pub if_written : (entries : List Pair) (P : List ℕ → Type 0) (r : Result (List ℕ) WriteFault) → IfOk r (λ file. file ≡ written entries) → IfOk r (λ file. length file ≤ 67108864)
+    → (length (written entries) ≤ 67108864 → P (written entries)) → IfOk r P
+if_written entries P (Ok file) is fits holds = subst P (sym is) (holds (subst (λ l. length l ≤ 67108864) is fits))
+if_written entries P (Err fault) is fits holds = tt

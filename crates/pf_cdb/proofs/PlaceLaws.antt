@@ -27,7 +27,7 @@ put_is slots slot step low used free =
     ap (λ n. set slots ((slot.hash / 256 + n) % length slots) slot) (sym first)
 
 -- going round, each place is come to
-rotates : (a n i : ℕ) → i < n → (j : ℕ) × (j < n) × ((a + j) % n ≡ i)
+pub rotates : (a n i : ℕ) → i < n → (j : ℕ) × (j < n) × ((a + j) % n ≡ i)
 rotates a n i low =
     let split = div-add-mod' a n in
     let rest : a % n < n = mod_below a n (omega arith) in

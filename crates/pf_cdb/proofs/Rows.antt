@@ -2,11 +2,12 @@
 use Rattle.std.proofs.Common.{◌≡◌, ℕ, List, [], ◌∷◌, ◌++◌, true, false, None, Some, length, map, take, set, replicate, refl, codes}
 use Rattle.std.specs.List.{flat_map}
 use Rattle.pf_base.specs.declared.pair.Pair.{Pair}
+use Rattle.pf_cdb.specs.Asked.{answer_of, ends_in_null, listed_pair, without_null}
 use Rattle.pf_cdb.specs.Damaged.{first_below, first_damage, first_in_slots, first_in_tables, is_hash_wrong, is_record_out, is_slot_out, is_table_out, slot_damage, table_damage}
 use Rattle.pf_cdb.specs.Hash.{hash_of}
 use Rattle.pf_cdb.specs.Held.{held, is_held, tried, value_span}
 use Rattle.pf_cdb.specs.Layout.{pair_at, table_of, word}
-use Rattle.pf_cdb.specs.Written.{by_table, filled, put, written}
+use Rattle.pf_cdb.specs.Written.{by_table, filled, firsts, put, written}
 use Rattle.pf_cdb.specs.declared.damage.Damage.TheVariants.{Header, TableRange, SlotRange, RecordRange, WrongHash}
 
 -- hashes
@@ -46,6 +47,10 @@ pair key value = record { key = key; value = value }
 abbrev entries : List Pair
 entries = pair (codes "aa") (codes "1") ∷ pair (codes "ii") (codes "2") ∷ pair (codes "qq") (codes "3") ∷ []
 
+-- of two pairs with one key the first counts
+first_of_aa : firsts (entries ++ pair (codes "aa") (codes "9") ∷ []) ≡ entries
+first_of_aa = refl
+
 three_pairs : written entries ≡ file
 unfolding by_table filled hash_of put tried written
 three_pairs = refl
@@ -66,6 +71,18 @@ second_pair = refl
 each_is_held : map (is_held file) (2048 ∷ 2049 ∷ 2059 ∷ 2070 ∷ []) ≡ true ∷ false ∷ true ∷ true ∷ []
 unfolding hash_of held is_held table_of tried word
 each_is_held = refl
+
+-- a key is asked for with a null byte behind it where it is not there without
+with_null_bytes : map (answer_of (pair (codes "aa" ++ 0 ∷ []) (codes "1" ++ 0 ∷ []) ∷ pair (codes "ii") (codes "2" ++ 0 ∷ []) ∷ pair (codes "ii" ++ 0 ∷ []) (codes "3") ∷ []))
+    (codes "aa" ∷ codes "ii" ∷ codes "qq" ∷ []) ≡ Some (codes "1") ∷ Some (codes "2" ++ 0 ∷ []) ∷ None ∷ []
+unfolding answer_of ends_in_null without_null
+with_null_bytes = refl
+
+-- and the null bytes of a pair are not listed
+listed_pairs : map listed_pair (pair (codes "aa" ++ 0 ∷ []) (codes "1" ++ 0 ∷ []) ∷ pair (codes "ii") (codes "2" ++ 0 ∷ []) ∷ pair [] [] ∷ [])
+    ≡ pair (codes "aa") (codes "1") ∷ pair (codes "ii") (codes "2" ++ 0 ∷ []) ∷ pair [] [] ∷ []
+unfolding ends_in_null listed_pair without_null
+listed_pairs = refl
 
 -- damage: none, a file that is cut off, a slot behind the file, a key that is too long, another hash
 no_damage : first_damage file ≡ None

@@ -1,6 +1,6 @@
 -- The bytes of the file that is written for some pairs (D. J. Bernstein, A structure for constant databases; cdb(5)). The order of the records,
 -- the size of a table, where an empty table would stand and the greatest size follow the tool cdb of tinycdb; the last is postgate's own.
-use Rattle.std.specs.Prelude.{ℕ, ◌+◌, ◌*◌, ◌/◌, ◌%◌, ◌==◌, ◌≢◌, Bool, nat_lt, List, [], ◌∷◌, ◌++◌, length, map, replicate, slice_set, AllPairs, flat_map, filter, fold, sum_by, Result, Ok, Err, if◌then◌else◌}
+use Rattle.std.specs.Prelude.{ℕ, ◌+◌, ◌*◌, ◌/◌, ◌%◌, ◌==◌, ◌≢◌, Bool, not, nat_lt, List, [], ◌∷◌, ◌++◌, length, map, replicate, slice_set, AllPairs, flat_map, filter, fold, sum_by, bytes_eq, Result, Ok, Err, if◌then◌else◌}
 use Rattle.std.specs.Int.{to_le_bytes, w32}
 use Rattle.std.specs.List.{prefix_len, range_with_len}
 use Rattle.pf_base.specs.declared.pair.Pair.{Pair}
@@ -13,6 +13,11 @@ use Rattle.pf_cdb.specs.declared.writing.WriteFault.TheVariants.{TooLarge}
 -- a number in four bytes, the least byte first
 abbrev pub bytes_of : ℕ → List ℕ
 bytes_of n = to_le_bytes w32 n
+
+-- of some pairs, those that a file of them stands for: of each key the first, in their order
+abbrev pub firsts : List Pair → List Pair
+firsts [] = []
+firsts (pair ∷ pairs) = pair ∷ filter (λ other. not (bytes_eq other.key pair.key)) (firsts pairs)
 
 abbrev pub HasDistinctKeys : List Pair → Type 0
 HasDistinctKeys entries = AllPairs (λ a b. a.key ≢ b.key) entries

@@ -1,7 +1,10 @@
 //! Files that are written.
-ghost use Rattle.std.specs.Prelude.{◌≡◌, ◌+◌, ◌*◌, ◌<◌, ◌≤◌, ◌++◌, [], length, map, OnOk, OnErr, IfOk, IfSome, IfNone, Err, flat_map, replicate, sum_by};
+ghost use Rattle.std.specs.Prelude.{◌≡◌, ◌+◌, ◌*◌, ◌<◌, ◌≤◌, ◌++◌, ℕ, List, [], length, map, OnOk, OnErr, IfOk, IfSome, IfNone, None, Err, bytes_eq, find, flat_map, replicate, sum_by};
 ghost use Rattle.pf_base.specs.Clauses.Unless.{Unless};
 ghost use Rattle.pf_cdb.specs.Clauses.Gathered.{slot_lists, with_slot};
+ghost use Rattle.pf_cdb.specs.Damaged.{first_damage};
+ghost use Rattle.pf_cdb.specs.Held.{elements_of};
+ghost use Rattle.pf_cdb.specs.Sound.{IsSound};
 ghost use Rattle.pf_cdb.specs.Written as spec;
 
 use crate::hashing::hash;
@@ -208,10 +211,17 @@ fn file_of(alloc: Global, entries: &[Pair]) -> Result<Bytes, WriteFault>
     Ok(file)
 }
 
-/// The bytes of the cdb file for the entries, in their order (cdb(5)). `TooLarge` comes only where the file would have more
-/// than `FILE_LIMIT` bytes, and no larger file is answered.
+/// The bytes of the cdb file for the entries, in their order (cdb(5)). `check` accepts the file, `elements` gives of each key
+/// the first entry, and `find` its value. `TooLarge` comes only where the file would have more than `FILE_LIMIT` bytes, and no
+/// larger file is answered.
 pub fn write(alloc: Global, entries: &List<Pair>) -> Result<Bytes, WriteFault>
     ensures file { Unless result WriteFault.NoMemory (λ r. r ≡ spec.written_file entries.now) }
+    ensures sound { IfOk result (λ file. IsSound file) }
+    ensures undamaged { IfOk result (λ file. first_damage file ≡ None) }
+    ensures stands_for { IfOk result (λ file. elements_of file ≡ spec.firsts entries.now) }
+    ensures distinct { spec.HasDistinctKeys entries.now → IfOk result (λ file. elements_of file ≡ entries.now) }
+    ensures finds { (key : List ℕ) → IfOk result (λ file.
+        find (λ pair. bytes_eq pair.key key) (elements_of file) ≡ find (λ pair. bytes_eq pair.key key) entries.now) }
 {
     file_of(alloc, entries.as_slice())
 }
