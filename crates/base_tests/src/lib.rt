@@ -1,8 +1,6 @@
-//! Tests of the lowest layers: lists, lines, words, files, main.cf and the judge.
+//! Tests of the lowest layers: bytes, lists, words, table texts, refusals and lookups.
 #![tactic(auto)]
 
-#[cfg(test)]
-mod edit_tests;
 #[cfg(test)]
 mod lookup_tests;
 #[cfg(test)]
