@@ -5,7 +5,7 @@ use Rattle.std.proofs.lemmas.Slice.Eq.{bytes_eq-Decides}
 use Rattle.std.specs.Map.{lookup}
 use Rattle.std.specs.Option.{unwrap_or}
 use Rattle.std.specs.Str.{bytes_eq}
-use Rattle.pf_base.specs.declared.meaning.Meaning.TheVariants.{Is, DomainOf}
+use Rattle.pf_base.specs.declared.meaning.Meaning.TheVariants.{Is}
 use Rattle.pf_expand.specs.Expansion.{parts}
 use Rattle.pf_expand.specs.Clauses.Meanings.{AreNames, Kept, meaning_of, kept, with_meaning}
 use Rattle.pf_base.specs.Meanings.{Source}

@@ -8,7 +8,7 @@ use Rattle.std.specs.List.{position_or_len}
 use Rattle.std.specs.Map.{keys_of, lookup}
 use Rattle.std.specs.Option.{unwrap_or}
 use Rattle.std.specs.Str.{bytes_eq}
-use Rattle.pf_base.specs.declared.meaning.Meaning.TheVariants.{Is, DomainOf}
+use Rattle.pf_base.specs.declared.meaning.Meaning.TheVariants.{Is}
 use Rattle.pf_expand.proofs.LevelLaws.{level_limit}
 use Rattle.pf_expand.proofs.ShapeLaws.{run_shape}
 use Rattle.pf_expand.specs.Expansion.{Answer, length_limit, within_limit}
