@@ -2,7 +2,9 @@ use lookup_forms::{
     Class, ClassFault, Domains, End, FixedTables, NoNames, NoService, Restriction, Site, Table,
     access_around, class_of, find_first, judge,
 };
-use pf_asks::{Found, TableFault};
+use pf_asks::{
+    Answer, Found, Kind, LinkStep, Links, MemLinks, MemResolver, Outcome, Resolver, Row, TableFault,
+};
 use pf_base::{Bytes, List, NoMemory, Pair, TableId};
 use std::alloc::Global;
 use std::test::Fail;
@@ -82,7 +84,24 @@ fn class(
     class_of(alloc, tables, domains, domain)
 }
 
-// How a class of restrictions ends, where the tables are there.
+// How a class of restrictions ends that asks these, where the tables are there.
+fn asked_end<K: Links, R: Resolver>(
+    alloc: Global,
+    tables: &mut FixedTables,
+    site: &Site,
+    domain: &[u8],
+    levels: u64,
+    number: u64,
+    links: &mut K,
+    resolver: &mut R,
+) -> Result<End, NoMemory> {
+    if !tables.has_all(&site.domains) {
+        return Err(NoMemory);
+    }
+    judge(alloc, site, domain, levels, number, tables, links, resolver)
+}
+
+// How a class of restrictions ends where the service is down and no name is known.
 fn class_end(
     alloc: Global,
     tables: &mut FixedTables,
@@ -91,20 +110,43 @@ fn class_end(
     levels: u64,
     number: u64,
 ) -> Result<End, NoMemory> {
-    if !tables.has_all(&site.domains) {
-        return Err(NoMemory);
-    }
     let mut service = NoService { faults: 0 };
-    judge(
+    asked_end(
         alloc,
+        tables,
         site,
         domain,
         levels,
         number,
-        tables,
         &mut service,
         &mut NoNames,
     )
+}
+
+// A resolver that knows one address. The question of this number, from 1, fails.
+fn resolver(alloc: Global, failing: u64) -> Result<MemResolver, NoMemory> {
+    let mut values = List::new(alloc);
+    values.push(Bytes::from_slice(alloc, b"192.0.2.1")?)?;
+    let mut rows = List::new(alloc);
+    rows.push(Row {
+        kind: Kind::A,
+        name: Bytes::from_slice(alloc, b"mail.test")?,
+        answer: Answer::Found(values),
+    })?;
+    let mut numbers = List::new(alloc);
+    numbers.push(failing)?;
+    match MemResolver::new(rows, numbers) {
+        Some(resolver) => Ok(resolver),
+        None => Err(NoMemory),
+    }
+}
+
+// A service whose first try is down at this step, and whose second one replies so.
+fn service(alloc: Global, step: LinkStep, reply: &[u8]) -> Result<MemLinks, NoMemory> {
+    let mut outcomes = List::new(alloc);
+    outcomes.push(Outcome::Down(step))?;
+    outcomes.push(Outcome::Reply(Bytes::from_slice(alloc, reply)?))?;
+    Ok(MemLinks::new(alloc, outcomes))
 }
 
 // How a domain ends that is looked up around its class, where the tables are there.
@@ -171,6 +213,65 @@ fn an_answer_is_kept_unless_it_failed(rt: HostRuntime) -> Result<(), Fail> {
     ] {
         let mut tables = tables(alloc, failing)?;
         let seen = around(alloc, &mut tables, &domains, domain)?;
+        assert_eq!(rt; seen, end);
+    }
+    Ok(())
+}
+
+#[test]
+fn a_resolver_in_memory_answers_its_rows(rt: HostRuntime) -> Result<(), Fail> {
+    let alloc = rt.alloc();
+    let site = site(alloc)?;
+    for (failing, domain, end) in [
+        (0, b"Mail.Test".as_slice(), End::Through),
+        (0, b"other.test".as_slice(), End::Deny(550)),
+        (1, b"mail.test".as_slice(), End::Deny(450)),
+        (2, b"mail.test".as_slice(), End::Deny(450)),
+        (3, b"mail.test".as_slice(), End::Through),
+    ] {
+        let mut tables = tables(alloc, 0)?;
+        let mut names = resolver(alloc, failing)?;
+        let mut down = NoService { faults: 0 };
+        let seen = asked_end(
+            alloc,
+            &mut tables,
+            &site,
+            domain,
+            1,
+            2,
+            &mut down,
+            &mut names,
+        )?;
+        assert_eq!(rt; seen, end);
+    }
+    Ok(())
+}
+
+#[test]
+fn a_service_in_memory_gives_its_outcomes(rt: HostRuntime) -> Result<(), Fail> {
+    let alloc = rt.alloc();
+    let site = site(alloc)?;
+    for (step, reply, end) in [
+        (LinkStep::Connect, b"action=OK\n\n".as_slice(), End::Permit),
+        (LinkStep::Send, b"action=OK\n\n".as_slice(), End::Permit),
+        (
+            LinkStep::Receive,
+            b"action=DUNNO\n\n".as_slice(),
+            End::Through,
+        ),
+    ] {
+        let mut tables = tables(alloc, 0)?;
+        let mut links = service(alloc, step, reply)?;
+        let seen = asked_end(
+            alloc,
+            &mut tables,
+            &site,
+            b"other.test",
+            100,
+            0,
+            &mut links,
+            &mut NoNames,
+        )?;
         assert_eq!(rt; seen, end);
     }
     Ok(())
