@@ -4,7 +4,7 @@ use Rattle.std.specs.Prelude.{MatchResult, option_map}
 use Rattle.std.specs.List.{count_by}
 use Rattle.std.proofs.lemmas.Bool.{le-ltb, lt-ltb}
 use Rattle.std.proofs.lemmas.List.{length-append, take_all}
-use Rattle.pf_base.specs.Clauses.Causes.{counted_by}
+use Rattle.pf_base.specs.Counts.{counted_by}
 use Rattle.pf_base.specs.declared.fault.NoMemory.{NoMemory}
 use Rattle.pf_base.specs.declared.fault.OuterFault.TheVariants as outer
 use Rattle.pf_base.specs.declared.fault.OuterFault.TheVariants.{Failed}

@@ -6,12 +6,12 @@ use Rattle.std.proofs.lemmas.List.Sums.{AllPass-from_list_all}
 use Rattle.std.specs.List.{list_all}
 use Rattle.std.proofs.lemmas.List.{length-append}
 use Rattle.std.specs.Prelude.{◌≤◌, not, if◌then◌else◌, nat_lt, slice_index_or, ok_or, slice_get}
-use Rattle.pf_base.specs.Clauses.Causes.{RoseBy, counted_by}
+use Rattle.pf_base.specs.Counts.{RoseBy, counted_by}
 use Rattle.pf_base.specs.Clauses.Unless.{Unless}
 use Rattle.pf_asks.specs.Clauses.Causes.{counted_if}
 use Rattle.pf_asks.proofs.CountLaws.{at_most_done, at_most_look, at_most_more, at_most_next}
 use Rattle.pf_asks.specs.Clauses.Held.{Answered}
-use Rattle.pf_asks.specs.Clauses.Looking.{CanFind, Tables, Looked, look_failed, looked_up, value_of}
+use Rattle.pf_asks.specs.Looking.{CanFind, Tables, Looked, look_failed, looked_up, value_of}
 use Rattle.pf_asks.specs.Clauses.Led.{AtMost}
 use Rattle.pf_asks.specs.Tries.{ok, on_ok, ◌>>=◌}
 use Rattle.pf_asks.specs.declared.lookup.Found.{Found}

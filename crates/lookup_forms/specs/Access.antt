@@ -2,7 +2,7 @@
 use Rattle.std.specs.Prelude.{◌≡◌, ℕ, List, Option, Ok, Err, codes, if◌then◌else◌}
 use Rattle.std.specs.Str.{bytes_eq}
 use Rattle.pf_asks.specs.Clauses.Held.{Holds}
-use Rattle.pf_asks.specs.Clauses.Looking.{Looked, Values, look_failed, value_of}
+use Rattle.pf_asks.specs.Looking.{Looked, Values, look_failed, value_of}
 use Rattle.pf_asks.specs.Questions.{Ask, done, look, ◌>>=◌}
 use Rattle.pf_asks.specs.declared.lookup.Found.TheVariants.{Value, Absent}
 use Rattle.lookup_forms.specs.Restrictions.{permit_auth_destination}

@@ -2,9 +2,9 @@
 use Rattle.std.specs.Prelude.{◌≡◌, ◌==◌, ℕ, Bool, true, List, [], ◌∷◌, Option, None, Some, length, slice_get}
 use Rattle.std.specs.List.{find, list_any}
 use Rattle.std.specs.Str.{bytes_eq}
-use Rattle.pf_base.specs.Clauses.Causes.{counted, counted_by}
+use Rattle.pf_base.specs.Counts.{counted, counted_by}
 use Rattle.pf_asks.specs.Clauses.Causes.{counted_if}
-use Rattle.pf_asks.specs.Clauses.Looking.{Tables, Values}
+use Rattle.pf_asks.specs.Looking.{Tables, Values}
 use Rattle.pf_asks.specs.Questions.{look}
 use Rattle.pf_asks.specs.Tries.{Try, ok, ◌>>=◌}
 use Rattle.pf_asks.specs.declared.lookup.Found.{Found}
@@ -59,7 +59,7 @@ abbrev pub or_else : Found → Try TableFault Found → Try TableFault Found
 or_else (Value bytes) behind = ok (Value bytes)
 or_else Absent behind = behind
 
--- the value of the first table that has one; a fault of a table before it is the answer
+-- tables are tried in turn: the first value ends the search, and so does a fault
 unfoldable pub first_of : List TableId → List ℕ → Try TableFault Found
 first_of [] key = ok Absent
 first_of (id ∷ ids) key = do

@@ -1,10 +1,10 @@
 //! An answer that is kept and used again within one question.
 ghost use Rattle.std.specs.Prelude.{◌≡◌, ◌≤◌, ◌+◌, ◌∷◌, [], true, not, length, Ok, IfOk, MatchResult};
-ghost use Rattle.pf_base.specs.Clauses.Causes.{counted_by, RoseBy};
+ghost use Rattle.pf_base.specs.Counts.{counted_by, RoseBy};
 ghost use Rattle.pf_asks.specs.Clauses.Causes.{counted_if};
 ghost use Rattle.pf_asks.specs.declared.lookup.Found.TheVariants.{Value};
 ghost use Rattle.pf_asks.specs.Clauses.Led.{AsksTables, ByTables, TablesBroken};
-ghost use Rattle.pf_asks.specs.Clauses.Looking.{CanFind};
+ghost use Rattle.pf_asks.specs.Looking.{CanFind};
 ghost use Rattle.lookup_forms.specs.Access as spec;
 ghost use Rattle.lookup_forms.specs.Classes.{tables_of};
 

@@ -1,6 +1,6 @@
 //! Straight lines over lookups, with a fault of its own.
 ghost use Rattle.pf_asks.specs.Clauses.Led.{TriesTables};
-ghost use Rattle.pf_asks.specs.Clauses.Looking.{CanFind};
+ghost use Rattle.pf_asks.specs.Looking.{CanFind};
 ghost use Rattle.lookup_forms.specs.Classes as classes;
 
 use crate::first::find_first;

@@ -2,14 +2,14 @@
 ghost use Rattle.std.specs.Prelude.{◌≡◌, ◌≤◌, ◌+◌, length};
 ghost use Rattle.pf_asks.specs.Clauses.Causes.{counted_if};
 ghost use Rattle.pf_asks.specs.Clauses.Led.{TriesTables};
-ghost use Rattle.pf_asks.specs.Clauses.Looking.{CanFind, look_failed};
+ghost use Rattle.pf_asks.specs.Looking.{CanFind, look_failed};
 ghost use Rattle.lookup_forms.specs.Tables.{first_of};
 
 use pf_asks::{Found, Lookup, TableFault};
 use pf_base::TableId;
 use std::alloc::Global;
 
-/// The value of the first table that has one; a fault of a table before it is the answer. `Failed` comes exactly where the
+/// Tables are tried in turn: the first value ends the search, and so does a fault. `Failed` comes exactly where the
 /// count of faults goes up, by one; each table is looked up once at most.
 pub fn find_first<T: Lookup>(
     alloc: Global,

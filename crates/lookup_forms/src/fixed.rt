@@ -4,7 +4,7 @@ ghost use Rattle.std.specs.List.{find, list_all, list_any};
 ghost use Rattle.std.specs.Option.{ok_or, option_copied};
 ghost use Rattle.std.specs.Str.{bytes_eq};
 ghost use Rattle.pf_base.specs.Clauses.Unless.{Unless};
-ghost use Rattle.pf_asks.specs.Clauses.Looking.{CanFind};
+ghost use Rattle.pf_asks.specs.Looking.{CanFind};
 ghost use Rattle.lookup_forms.specs.Classes.{tables_of};
 ghost use Rattle.lookup_forms.specs.Tables as spec;
 

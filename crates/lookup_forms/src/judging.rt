@@ -1,7 +1,7 @@
 //! Nested judging: lists of restrictions that name other lists.
 ghost use Rattle.std.specs.Prelude.{◌≡◌};
 ghost use Rattle.pf_asks.specs.Clauses.Led.{Asks, AsksLinks, AsksTables, world};
-ghost use Rattle.pf_asks.specs.Clauses.Looking.{CanFind};
+ghost use Rattle.pf_asks.specs.Looking.{CanFind};
 ghost use Rattle.lookup_forms.specs.Classes.{tables_of};
 ghost use Rattle.lookup_forms.specs.Restrictions as spec;
 

@@ -4,7 +4,7 @@ use Rattle.std.specs.Prelude.{MatchResult}
 use Rattle.pf_asks.proofs.LedLaws.{behind_behind, led_refl, led_same, led_trans}
 use Rattle.pf_asks.specs.Clauses.Held.{Held, called}
 use Rattle.pf_asks.specs.Clauses.Led.{Asks, AsksLinks, AsksResolver, AsksTables, BrokenOff, Cut, Led, Same, World}
-use Rattle.pf_asks.specs.Clauses.Looking.{Tables, looked_up}
+use Rattle.pf_asks.specs.Looking.{Tables, looked_up}
 use Rattle.pf_asks.specs.Questions.{Ask, ask, behind, done, look, try, ◌>>=◌}
 use Rattle.pf_asks.specs.Wire.{Wire}
 use Rattle.pf_asks.specs.declared.lookup.TableFault.TheVariants.{NoMemory}

@@ -2,7 +2,7 @@
 use Rattle.std.proofs.Common.{◌≡◌, ◌≤◌, ◌+◌, ℕ, List, [], ◌∷◌, Option, None, length, ap, arith, append-nil}
 use Rattle.pf_asks.specs.Heard.{◌then◌, next, nothing}
 use Rattle.pf_asks.specs.Clauses.Led.{AtMost, ByTables, Meant}
-use Rattle.pf_asks.specs.Clauses.Looking.{Looked, Tables}
+use Rattle.pf_asks.specs.Looking.{Looked, Tables}
 use Rattle.pf_asks.specs.Questions.{Ask, Means, done, look, ◌>>=◌}
 use Rattle.pf_asks.proofs.LedLaws.{alone, meant_by, tells_meant}
 

@@ -6,7 +6,7 @@ use Rattle.pf_asks.proofs.HeldLaws.{count_more, counted_none, heard_again, hears
 use Rattle.pf_asks.specs.Heard.{Heard, ◌then◌, nothing}
 use Rattle.pf_asks.specs.Clauses.Held.{Answered, Held, Hears, Holds, Tells, called}
 use Rattle.pf_asks.specs.Clauses.Led.{Led, Links, Looks, Meant, Same, TablesLed, Uses, UsesTold, World, tried, world}
-use Rattle.pf_asks.specs.Clauses.Looking.{CanFind, Looked, Stays, Tables, look_failed, looked_up, value_of}
+use Rattle.pf_asks.specs.Looking.{CanFind, Looked, Stays, Tables, look_failed, looked_up, value_of}
 use Rattle.pf_asks.specs.Questions.{Ask, Gave, Means, ask, behind, done, look, try, ◌>>=◌}
 use Rattle.pf_asks.specs.Resolving.{Asked, answer_of, ask_failed}
 use Rattle.pf_asks.specs.Wire.{Wire, is_down}

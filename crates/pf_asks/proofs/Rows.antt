@@ -3,7 +3,7 @@ use Rattle.std.proofs.Common.{◌≡◌, ℕ, zero, suc, true, false, List, [], 
 use Rattle.pf_asks.specs.Heard.{marked, next, nothing, ◌then◌}
 use Rattle.pf_asks.specs.Clauses.Held.{failures}
 use Rattle.pf_asks.specs.Clauses.Led.{tried}
-use Rattle.pf_asks.specs.Clauses.Looking.{Looked, look_failed, value_of}
+use Rattle.pf_asks.specs.Looking.{Looked, look_failed, value_of}
 use Rattle.pf_asks.specs.Questions.{Means, look, try, ◌>>=◌}
 use Rattle.pf_asks.specs.Resolving.{answer_of, or_again}
 use Rattle.pf_asks.specs.Wire.{begun, hung_up, next_outcome}

@@ -2,6 +2,5 @@
 pub mod Causes
 pub mod Held
 pub mod Led
-pub mod Looking
 pub mod Memory
 pub mod MemoryLinks

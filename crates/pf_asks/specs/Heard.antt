@@ -1,6 +1,6 @@
 -- What is heard from outside while a question is answered. By no standard.
 use Rattle.std.specs.Prelude.{◌++◌, Bool, List, [], ◌∷◌, Option, None, Some, Err, cond, map}
-use Rattle.pf_asks.specs.Clauses.Looking.{Looked}
+use Rattle.pf_asks.specs.Looking.{Looked}
 use Rattle.pf_asks.specs.Resolving.{Asked}
 use Rattle.pf_asks.specs.declared.links.Outcome.{Outcome}
 use Rattle.pf_asks.specs.declared.lookup.TableFault.TheVariants.{Failed}

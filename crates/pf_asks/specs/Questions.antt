@@ -4,7 +4,7 @@
 use Rattle.std.specs.Prelude.{ℕ, ◌++◌, List, [], ◌∷◌}
 use Rattle.std.specs.Option.{unwrap_or}
 use Rattle.pf_asks.specs.Heard.{Heard, next}
-use Rattle.pf_asks.specs.Clauses.Looking.{Looked, Values, value_of}
+use Rattle.pf_asks.specs.Looking.{Looked, Values, value_of}
 use Rattle.pf_asks.specs.Resolving.{Asked, answer_of}
 use Rattle.pf_asks.specs.Wire.{next_outcome}
 use Rattle.pf_asks.specs.declared.links.Outcome.{Outcome}

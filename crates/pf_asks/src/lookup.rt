@@ -2,7 +2,7 @@
 ghost use Rattle.std.specs.Prelude.{◌≡◌, ◌<◌, true};
 ghost use Rattle.pf_base.specs.Clauses.Unless.{Unless};
 ghost use Rattle.pf_asks.specs.Clauses.Held.{Answered};
-ghost use Rattle.pf_asks.specs.Clauses.Looking.{Tables, look_failed, looked_up, value_of};
+ghost use Rattle.pf_asks.specs.Looking.{Tables, look_failed, looked_up, value_of};
 
 use pf_base::{Bytes, TableId};
 use std::alloc::Global;

@@ -3,10 +3,10 @@ use Rattle.std.proofs.Common.{◌≡◌, ℕ, Bool, true, false, zero, suc, List
 use Rattle.std.proofs.lemmas.Bool.{false≢true, ne_eqb}
 use Rattle.std.specs.Prelude.{⊤, ◌⊎◌}
 use Rattle.pf_base.proofs.ToldLemmas.{wrote_none}
-use Rattle.pf_base.specs.Clauses.Causes.{counted}
-use Rattle.pf_base.specs.Clauses.Objects.{Objects, Says, Sinks, StopsBy, sink_status, status_of}
+use Rattle.pf_base.specs.Counts.{counted}
+use Rattle.pf_base.specs.Objects.{Objects, Says, Sinks, StopsBy, sink_status, status_of}
 use Rattle.pf_base.specs.Statuses.{Counts, HasCauses, NoneRose, counted_if, counts_of, is_among, without_fault}
-use Rattle.pf_base.specs.Clauses.Told.{Output, Tree, HoldsFront, wrote}
+use Rattle.pf_base.specs.Told.{Output, Tree, HoldsFront, wrote}
 use Rattle.pf_base.specs.declared.status.TheConstants.{DONE, FILES_FAILED, INPUT_FAILED, NO_MEMORY, REFUSED, USAGE, WARNED}
 use Rattle.pf_base.specs.declared.texts.SinkFault.{SinkFault}
 use Rattle.pf_base.specs.declared.texts.SinkFault.TheVariants as fault

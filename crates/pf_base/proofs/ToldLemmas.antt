@@ -1,7 +1,7 @@
 -- What an object told, over several calls.
 use Rattle.std.proofs.Common.{◌≡◌, List, [], ◌++◌, ℕ, Option, Some, None, refl, sym, ap, ◌∙◌, arith, inl, append_assoc, append-nil, length-append}
-use Rattle.pf_base.specs.Clauses.Objects.{Sinks, StopsBy, appended, joined}
-use Rattle.pf_base.specs.Clauses.Told.{HoldsFront, Input, Output, Takes, wrote}
+use Rattle.pf_base.specs.Objects.{Sinks, StopsBy, appended, joined}
+use Rattle.pf_base.specs.Told.{HoldsFront, Input, Output, Takes, wrote}
 use Rattle.pf_base.specs.declared.texts.SinkFault.TheVariants as fault
 use Rattle.pf_base.specs.declared.texts.Texts.{Texts}
 use Rattle.std.specs.Io.KnownBytes.{append_known, prepend_known}

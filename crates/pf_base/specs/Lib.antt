@@ -1,11 +1,13 @@
 pub mod Ascii
 pub mod Braces
 pub mod Clauses
+pub mod Counts
 pub mod FileList
 pub mod Lines
 pub mod Logical
 pub mod Meanings
 pub mod Names
+pub mod Objects
 pub mod Options
 pub mod Printing
 pub mod Refusal
@@ -13,4 +15,5 @@ pub mod Results
 pub mod Space
 pub mod Statuses
 pub mod TableTexts
+pub mod Told
 pub mod Words

@@ -1,8 +1,8 @@
 -- The statuses of runs and their causes. The statuses are postgate's own.
 use Rattle.std.specs.Prelude.{◌≡◌, ◌≢◌, ◌⊎◌, ℕ, ◌==◌, Bool, true, List, [], ◌∷◌, if◌then◌else◌}
 use Rattle.std.specs.List.{list_any}
-use Rattle.pf_base.specs.Clauses.Causes.{counted}
-use Rattle.pf_base.specs.Clauses.Objects.{Objects}
+use Rattle.pf_base.specs.Counts.{counted}
+use Rattle.pf_base.specs.Objects.{Objects}
 use Rattle.pf_base.specs.declared.status.TheConstants.{AT_BUDGET, DONE, FILES_FAILED, INPUT_FAILED, LOG_FAILED, MAIL_FAILED, OUT_FAILED, REFUSED, USAGE, WARNED}
 
 -- a status is one of these

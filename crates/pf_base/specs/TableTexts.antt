@@ -4,7 +4,7 @@ use Rattle.std.specs.List.{position}
 use Rattle.std.specs.Str.{bytes_eq}
 use Rattle.pf_base.specs.declared.table_texts.TableText.{TableText}
 
--- the texts, each with the line of the setting that named it first, and the name of the file of these settings
+-- the name of the file, and the texts with the lines of their first settings
 pub record TableTexts : Type 0 where
   pub file : List ℕ
   pub texts : List TableText

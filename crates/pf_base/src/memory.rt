@@ -4,7 +4,7 @@ ghost use Rattle.std.specs.List.{find, list_any, position};
 ghost use Rattle.std.specs.Option.{option_copied, option_map};
 ghost use Rattle.std.specs.Str.{bytes_eq};
 ghost use Rattle.std.specs.Io.{ReadsAtMost};
-ghost use Rattle.pf_base.specs.Clauses.Told.{Looks, Reads, Replaces, Writes, read_once};
+ghost use Rattle.pf_base.specs.Told.{Looks, Reads, Replaces, Writes, read_once};
 
 use crate::bytes::Bytes;
 use crate::fault::{Failed, NoMemory, OuterFault};
@@ -107,8 +107,8 @@ impl Model for MemSource {
 impl MemSource {
     ghost use Rattle.pf_base.specs.Clauses.Memory.{greatest_read, none_made};
 
-    /// These bytes. `cuts` are the greatest sizes of successive reads in bytes, the last one repeated; a cut of 0 counts
-    /// as 1, and an empty list sets no limit. `failing` are the numbers, from 1, of the reads that fail.
+    /// These bytes. The first read gives at most as many bytes as the first of `cuts` says, the second as the second, and
+    /// each read behind the end of the list as its last; 0 stands for 1. Without `cuts` there is no such limit. `failing` are the numbers, from 1, of the reads that fail.
     pub fn new(bytes: Bytes, cuts: List<u64>, failing: List<u64>) -> MemSource
         ensures { result ≡ record { left = bytes; given = 0; ends = 0; ended = 0; cuts = cuts; calls = none_made failing } }
     {

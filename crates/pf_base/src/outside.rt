@@ -4,7 +4,7 @@ ghost use Rattle.std.specs.Prelude.{◌≡◌, List as Seq, [], Some, length, If
 ghost use Rattle.std.specs.Option.{option_map};
 ghost use Rattle.std.specs.Io.{ReadsAtMost};
 ghost use Rattle.pf_base.specs.FileList.{file_of, ReadsFrom};
-ghost use Rattle.pf_base.specs.Clauses.Told.{Input, Looks, Output, Reads, Replaces, Tree, Writes, read_once};
+ghost use Rattle.pf_base.specs.Told.{Input, Looks, Output, Reads, Replaces, Tree, Writes, read_once};
 ghost use Rattle.pf_base.specs.declared.pair.Pair.{Pair};
 
 use crate::fault::{Failed, OuterFault};

@@ -2,7 +2,7 @@
 ghost use Rattle.std.specs.Prelude.{◌≡◌, ◌≢◌, ◌<◌, ◌≤◌, ◌+◌, List as Seq, [], Some, Ok, Err, length, take, unwrap_or, IfOk};
 ghost use Rattle.pf_base.specs.FileList.{file_of, whole_file};
 ghost use Rattle.pf_base.specs.Clauses.FileParts.{AddsPart};
-ghost use Rattle.pf_base.specs.Clauses.Told.{ReadsWhole};
+ghost use Rattle.pf_base.specs.Told.{ReadsWhole};
 ghost use Rattle.pf_base.specs.declared.pair.Pair.{Pair};
 
 use crate::bytes::Bytes;

@@ -23,8 +23,8 @@ pub(crate) struct TableText {
     pub(crate) text: Bytes,
 }
 
-/// Table texts in order, each once with the line of the setting that named it first, and the name of the file of these
-/// settings. What a table text is, DATABASE_README says: a type, a colon and a name.
+/// The table texts that settings name, without repeats, in the order in which they are met. Each has the line of the first
+/// setting that names it, and all have the name of the file of these settings. What a table text is, DATABASE_README says: a type, a colon and a name.
 #[derive(Debug, Drop)]
 pub struct Specs {
     file: Bytes,

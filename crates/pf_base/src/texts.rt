@@ -1,8 +1,8 @@
 //! The texts that are written to the sinks of a run.
 ghost use Rattle.std.specs.Prelude.{◌≡◌, [], IsOk};
-ghost use Rattle.pf_base.specs.Clauses.Objects as spec;
-ghost use Rattle.pf_base.specs.Clauses.Objects.{Says, log_text, out_text, sink_status, sinks, status_of};
-ghost use Rattle.pf_base.specs.Clauses.Told.{Output, Writes};
+ghost use Rattle.pf_base.specs.Objects as spec;
+ghost use Rattle.pf_base.specs.Objects.{Says, log_text, out_text, sink_status, sinks, status_of};
+ghost use Rattle.pf_base.specs.Told.{Output, Writes};
 
 use crate::bytes::Bytes;
 use crate::fault::OuterFault;

@@ -5,8 +5,8 @@ use Rattle.std.proofs.lemmas.List.{length-drop}
 use Rattle.std.specs.List.{position}
 use Rattle.pf_base.specs.declared.meaning.Meaning.TheVariants.{Is, DomainOf}
 use Rattle.pf_expand.proofs.ShapeLaws.{Limited}
-use Rattle.pf_expand.specs.Expansion.{Answer, joined, length_limit, within_limit}
-use Rattle.pf_expand.specs.Clauses.Meanings.{Kept, content, level_value, meaning_of, meaning_value}
+use Rattle.pf_expand.specs.Expansion.{Answer, content, joined, length_limit, within_limit}
+use Rattle.pf_expand.specs.Clauses.Meanings.{Kept, level_value, meaning_of, meaning_value}
 use Rattle.pf_expand.specs.Names.{domain_in, domain_of, past_dot}
 use Rattle.pf_expand.specs.Clauses.Runs.{added, behind, behind_choice, choice_name, flaw_alone, run}
 use Rattle.pf_expand.specs.declared.flaw.Flaw.TheVariants.{TooLong}

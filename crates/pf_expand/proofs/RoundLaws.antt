@@ -11,9 +11,9 @@ use Rattle.std.specs.Str.{bytes_eq}
 use Rattle.pf_base.specs.declared.meaning.Meaning.TheVariants.{Is}
 use Rattle.pf_expand.proofs.LevelLaws.{level_limit}
 use Rattle.pf_expand.proofs.ShapeLaws.{run_shape}
-use Rattle.pf_expand.specs.Expansion.{Answer, length_limit, within_limit}
+use Rattle.pf_expand.specs.Expansion.{Answer, content, length_limit, within_limit}
 use Rattle.pf_expand.specs.Clauses.Levels.{AreShapes, shape_at, shape_named}
-use Rattle.pf_expand.specs.Clauses.Meanings.{Kept, content, level_value, meaning_in, meaning_of, meaning_value, place_in}
+use Rattle.pf_expand.specs.Clauses.Meanings.{Kept, level_value, meaning_in, meaning_of, meaning_value, place_in}
 use Rattle.pf_expand.specs.Names.{domain_in, domain_of}
 use Rattle.pf_expand.specs.Clauses.Runs as runs
 use Rattle.pf_expand.specs.Clauses.Shapes.{long, run, shape_of}

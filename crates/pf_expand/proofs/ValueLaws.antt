@@ -4,9 +4,9 @@ use Rattle.std.specs.Option.{option_map}
 use Rattle.pf_expand.proofs.LevelLaws.{level_limit}
 use Rattle.pf_expand.proofs.RunLaws.{run_flat}
 use Rattle.pf_expand.proofs.ShapeLaws.{run_shape}
-use Rattle.pf_expand.specs.Expansion.{Answer, Text, joined, length_limit, parts_of, text_value, value_of, value_or_bad, within_limit}
+use Rattle.pf_expand.specs.Expansion.{Answer, Text, content, joined, length_limit, parts_of, text_value, value_of, value_or_bad, within_limit}
 use Rattle.pf_expand.specs.Clauses.Levels.{AreShapes, shape_named}
-use Rattle.pf_expand.specs.Clauses.Meanings.{Kept, content, level_value}
+use Rattle.pf_expand.specs.Clauses.Meanings.{Kept, level_value}
 use Rattle.pf_expand.specs.Clauses.Runs as runs
 use Rattle.pf_expand.specs.Clauses.Shapes.{run, shape_of}
 use Rattle.pf_expand.specs.Clauses.Tokens.{flat, tokens_of}

@@ -6,9 +6,9 @@ use Rattle.pf_expand.proofs.LengthLaws.{depth_more, drop_item}
 use Rattle.pf_expand.proofs.LevelLaws.{both, level_extends, level_limit}
 use Rattle.pf_expand.proofs.RoundLaws.{next_meaning}
 use Rattle.pf_expand.proofs.ShapeLaws.{choice_shape, limited_shape}
-use Rattle.pf_expand.specs.Expansion.{Answer, length_limit, within_limit}
+use Rattle.pf_expand.specs.Expansion.{Answer, content, length_limit, within_limit}
 use Rattle.pf_expand.specs.Clauses.Levels.{AreShapes, choice_behind, shape_named}
-use Rattle.pf_expand.specs.Clauses.Meanings.{Kept, content, level_value, meaning_in}
+use Rattle.pf_expand.specs.Clauses.Meanings.{Kept, level_value, meaning_in}
 use Rattle.pf_expand.specs.Names.{domain_of}
 use Rattle.pf_expand.specs.Clauses.Runs.{added, behind, behind_choice, choice_name, flaw_alone, run}
 use Rattle.pf_expand.specs.Clauses.RunsMeant.{depth_of}

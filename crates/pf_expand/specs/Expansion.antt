@@ -85,3 +85,8 @@ value_or_bad values (Some text) = within_limit (value_of values text)
 
 unfoldable pub text_value : (List ℕ → Answer) → List ℕ → Answer
 text_value values text = value_or_bad values (parts_of text)
+
+-- the bytes of a value, if it is there
+abbrev pub content : Answer → List ℕ
+content (Ok bytes) = bytes
+content (Err flaw) = []

@@ -2,7 +2,8 @@
 ghost use Rattle.std.specs.Prelude.{◌≡◌, ◌==◌, ◌≤◌, ◌+◌, ◌++◌, true, is_ok, OnOk};
 ghost use Rattle.std.specs.List.{position};
 ghost use Rattle.pf_expand.specs.Clauses.Levels.{AreShapes};
-ghost use Rattle.pf_expand.specs.Clauses.Meanings.{content, level_value};
+ghost use Rattle.pf_expand.specs.Clauses.Meanings.{level_value};
+ghost use Rattle.pf_expand.specs.Expansion.{content};
 ghost use Rattle.pf_expand.specs.Names as expansion;
 ghost use Rattle.pf_expand.specs.Clauses.Runs as runs;
 ghost use Rattle.pf_expand.specs.declared.run.Mode.TheVariants.{Counts};

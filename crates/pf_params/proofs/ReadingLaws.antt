@@ -8,8 +8,7 @@ use Rattle.pf_base.specs.declared.refused.Refused.{Refused}
 use Rattle.pf_catalogue.specs.Catalogue.{Row}
 use Rattle.pf_catalogue.specs.Values.{value_of}
 use Rattle.pf_catalogue.specs.declared.value.Value.{Value}
-use Rattle.pf_expand.specs.Expansion.{Answer}
-use Rattle.pf_expand.specs.Clauses.Meanings.{content}
+use Rattle.pf_expand.specs.Expansion.{Answer, content}
 use Rattle.pf_params.specs.Accepted.{raw_of, said_by, text_of}
 use Rattle.pf_params.specs.Clauses.Readings.{before, readings_of}
 use Rattle.pf_params.specs.Parameters.{is_set, line_of, may_stand, raw_text, reading_from, reading_if, reading_of, refusal_of}

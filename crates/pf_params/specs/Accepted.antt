@@ -11,7 +11,7 @@ use Rattle.pf_catalogue.specs.Values.{value_of}
 use Rattle.pf_catalogue.specs.declared.kind.Kind.{Kind}
 use Rattle.pf_catalogue.specs.declared.kind.Kind.TheVariants.{Number, Code, Maps, Domains, Networks, Hosts, Restrictions, AddressKinds, Extensions, Interfaces, RewriteClients, Names}
 use Rattle.pf_catalogue.specs.declared.value.Value.{Value}
-use Rattle.pf_expand.specs.Clauses.Meanings.{content}
+use Rattle.pf_expand.specs.Expansion.{content}
 use Rattle.pf_maincf.specs.Settings.{Conf}
 use Rattle.pf_maincf.specs.declared.setting.Setting.{Setting}
 use Rattle.pf_params.specs.Classes.{class_named, class_names, class_rows, classes_of}

@@ -7,11 +7,11 @@ use Rattle.std.proofs.Math.Seq.{take-append-add}
 use Rattle.pf_base.specs.Lines.{lines, rest}
 use Rattle.pf_base.specs.Clauses.Pieces.{onto_line, unless_line}
 use Rattle.pf_base.proofs.LineEnds.{rest_of_none}
-use Rattle.pf_base.specs.Clauses.Objects.{joined}
+use Rattle.pf_base.specs.Objects.{joined}
 use Rattle.pf_base.specs.declared.texts.Texts.{Texts}
 use Rattle.pf_smtp.specs.Clauses.Gathering.{AnswersLine, AnswersPiece, ComesDownTo, line_given}
-use Rattle.pf_smtp.specs.Clauses.Feeding.{given, part_behind, texts_of}
-use Rattle.pf_smtp.specs.Session.{stays, before, steps, replies_text, records_text, log_text}
+use Rattle.pf_smtp.specs.Clauses.Feeding.{given, part_behind}
+use Rattle.pf_smtp.specs.Session.{before, log_text, records_text, replies_text, stays, steps, texts_of}
 use Rattle.pf_smtp.specs.Step.{Step}
 use Rattle.pf_smtp.specs.Text.{text_of, record_text, log_line}
 use Rattle.pf_smtp.specs.declared.record_line.RecordLine.{RecordLine}

@@ -4,7 +4,7 @@ use Rattle.std.proofs.lemmas.List.{take_all, length-take-le, take-take, take-app
 use Rattle.std.proofs.lemmas.Bool.{lt-ltb, cases_lt}
 use Rattle.pf_base.specs.Lines.{lines, rest, without_return}
 use Rattle.pf_base.specs.Clauses.Pieces.{onto_line, unless_line}
-use Rattle.pf_base.specs.Clauses.Causes.{counted}
+use Rattle.pf_base.specs.Counts.{counted}
 use Rattle.pf_base.proofs.LineEnds.{lines-append, rest-append, rest_of_none}
 use Rattle.pf_smtp.specs.Clauses.Feeding.{given, part_behind}
 use Rattle.pf_smtp.specs.Session.{stays, before, steps}

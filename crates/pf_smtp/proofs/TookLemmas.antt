@@ -4,11 +4,11 @@ use Rattle.std.proofs.lemmas.Bool.{false≢true}
 use Rattle.pf_base.proofs.ToldLemmas.{appended_more, appended_none}
 use Rattle.pf_base.specs.Lines.{lines, rest}
 use Rattle.pf_base.specs.Clauses.Pieces.{unless_line}
-use Rattle.pf_base.specs.Clauses.Objects.{Sinks, appended, joined}
+use Rattle.pf_base.specs.Objects.{Sinks, appended, joined}
 use Rattle.pf_smtp.proofs.PieceLemmas.{given_over, texts-before}
 use Rattle.pf_smtp.proofs.StepLemmas.{behind, given-append, part_behind-append}
-use Rattle.pf_smtp.specs.Clauses.Feeding.{Took, fresh, given, part_behind, texts_given, texts_of}
-use Rattle.pf_smtp.specs.Session.{before, stays, steps}
+use Rattle.pf_smtp.specs.Clauses.Feeding.{Took, fresh, given, part_behind, texts_given}
+use Rattle.pf_smtp.specs.Session.{before, stays, steps, texts_of}
 use Rattle.pf_smtp.specs.declared.standing.Standing.{Standing}
 use Rattle.pf_smtp.specs.declared.state.Setup.{Setup}
 
@@ -20,6 +20,15 @@ took_none told setup = record {
   setup = refl;
   state = refl;
   part = λ over. refl;
+}
+
+-- a session that is over takes any bytes and says nothing
+pub took_over : (told : Sinks) (s : Standing) (ys : List ℕ) → s.state.over ≡ true → Took told told s s ys
+took_over told s ys over = record {
+  sinks = sym (appended_none told) ∙ ap (λ g. appended told (texts_of s.setup g)) (sym (given_over s ys over));
+  setup = refl;
+  state = ap (λ g. g.next) (sym (given_over s ys over));
+  part = λ going. absurd (false≢true (sym going ∙ over));
 }
 
 -- once it is over, a session gives nothing, whatever it has of a line

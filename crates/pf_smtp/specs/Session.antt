@@ -3,6 +3,7 @@
 use Rattle.std.specs.Prelude.{ℕ, ◌++◌, false, List, [], ◌∷◌, None, if◌then◌else◌}
 use Rattle.std.specs.List.{flat_map}
 use Rattle.pf_base.specs.Lines.{lines}
+use Rattle.pf_base.specs.declared.texts.Texts.{Texts}
 use Rattle.pf_smtp.specs.Step.{Step, step}
 use Rattle.pf_smtp.specs.Text.{text_of, record_text, log_line}
 use Rattle.pf_smtp.specs.declared.state.Setup.{Setup}
@@ -46,3 +47,7 @@ records_text step = flat_map record_text step.records
 -- and of its log lines
 abbrev pub log_text : Step → List ℕ
 log_text step = flat_map log_line step.entries
+
+-- and all three
+abbrev pub texts_of : Setup → Step → Texts
+texts_of setup step = record { out = replies_text setup step; mail = records_text step; log = log_text step }

@@ -1,7 +1,7 @@
 //! The session, as the layer above drives it.
-ghost use Rattle.std.specs.Prelude.{◌≡◌, true, false, IfErr, IfOk, OnErr, OnOk};
-ghost use Rattle.pf_base.specs.Clauses.Objects.{Says, StopsBy, out_text, sinks};
-ghost use Rattle.pf_base.specs.Clauses.Told.{Output};
+ghost use Rattle.std.specs.Prelude.{◌≡◌, true, false, Ok, IfErr, IfOk, OnErr, OnOk};
+ghost use Rattle.pf_base.specs.Objects.{Says, StopsBy, out_text, sinks};
+ghost use Rattle.pf_base.specs.Told.{Output};
 ghost use Rattle.pf_smtp.specs.Clauses.Feeding.{Took, fresh, going_of, texts_given};
 ghost use Rattle.pf_smtp.specs.Text.{greeting_of};
 
@@ -143,7 +143,11 @@ impl Session {
         ensures begun { self.new.begun ≡ true }
         ensures going { IfOk result (λ going. going ≡ going_of self.new.standing.state) }
         ensures over { OnErr result (self.new.standing.state.over ≡ true) }
+        ensures silent { self.old.standing.state.over ≡ true → result ≡ Ok Going.Over }
     {
+        if self.standing.state.over {
+            return Ok(Going::Over);
+        }
         match self.standing.answer(alloc, piece, out, mail, log) {
             Ok(()) => {
                 if self.standing.state.over {

@@ -2,9 +2,9 @@
 use Rattle.std.proofs.Common.{◌≡◌, ℕ, true, List, [], ◌∷◌, Option, Some, Result, Ok, Err, inl, inr, refl}
 use Rattle.std.specs.Prelude.{⊤}
 use Rattle.pf_base.proofs.StatusLemmas.{FilesCause, none_stopped, spoken}
-use Rattle.pf_base.specs.Clauses.Objects.{Says, Sinks, status_of}
+use Rattle.pf_base.specs.Objects.{Says, Sinks, status_of}
 use Rattle.pf_base.specs.Statuses.{Counts, HasCauses, NoneRose, is_among}
-use Rattle.pf_base.specs.Clauses.Told.{Tree}
+use Rattle.pf_base.specs.Told.{Tree}
 use Rattle.pf_base.specs.declared.pair.Pair.{Pair}
 use Rattle.pf_base.specs.declared.refused.Refused.{Refused}
 use Rattle.pf_base.specs.declared.texts.SinkFault.{SinkFault}

@@ -30,7 +30,7 @@ parameter_names = map (λ row. row.name) catalogue
 abbrev pub set_names : Settled → List (List ℕ)
 set_names s = map (λ setting. setting.name) s.settings
 
--- the names of which all that there are are shown
+-- the names that are shown where the words name none
 abbrev pub names_of : ConfMode → Settled → List (List ℕ)
 names_of mode.All s = parameter_names ++ set_names s
 names_of mode.Set s = set_names s

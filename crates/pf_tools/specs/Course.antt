@@ -5,7 +5,7 @@ use Rattle.std.specs.Str.{is_utf8}
 use Rattle.pf_base.specs.FileList.{file_of}
 use Rattle.pf_base.specs.Printing.{printed_line}
 use Rattle.pf_base.specs.Refusal.{refusal_line}
-use Rattle.pf_base.specs.Clauses.Told.{Tree, failed_tree, replaced}
+use Rattle.pf_base.specs.Told.{Tree, failed_tree, replaced}
 use Rattle.pf_base.specs.declared.pair.Pair.{Pair}
 use Rattle.pf_base.specs.declared.refused.Refused.{Refused}
 use Rattle.pf_base.specs.declared.status.TheConstants.{DONE, FILES_FAILED, NO_MEMORY, REFUSED, WARNED}

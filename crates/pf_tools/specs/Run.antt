@@ -1,6 +1,6 @@
 -- What a run of postconf leaves. The statuses are postgate's own.
 use Rattle.std.specs.Prelude.{◌≡◌, ℕ, List, [], ◌∷◌, Some, true, false, Result, Ok, Err, IsOk, ⊤}
-use Rattle.pf_base.specs.Clauses.Objects.{Objects, Says, status_of}
+use Rattle.pf_base.specs.Objects.{Objects, Says, status_of}
 use Rattle.pf_base.specs.Statuses.{HasCauses, NoneRose, counts_of, is_among}
 use Rattle.pf_base.specs.declared.pair.Pair.{Pair}
 use Rattle.pf_base.specs.declared.refused.Refused.{Refused}

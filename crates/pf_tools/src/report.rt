@@ -1,7 +1,7 @@
 //! What a run does to the files, and what it is to write.
 ghost use Rattle.std.specs.Prelude.{◌≡◌, ◌⊎◌, [], false, true, IfOk, OnErr};
 ghost use Rattle.std.specs.Str.{IsUtf8};
-ghost use Rattle.pf_base.specs.Clauses.Objects.{log_text};
+ghost use Rattle.pf_base.specs.Objects.{log_text};
 ghost use Rattle.pf_base.specs.Refusal.{refusal_line};
 ghost use Rattle.pf_base.specs.declared.status.TheConstants.{FILES_FAILED, REFUSED};
 ghost use Rattle.pf_tools.specs.Course as spec;

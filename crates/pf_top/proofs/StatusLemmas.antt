@@ -3,9 +3,9 @@ use Rattle.std.proofs.Common.{◌≡◌, ℕ, true, List, [], ◌∷◌, ◌++�
 use Rattle.std.specs.Prelude.{⊤}
 use Rattle.pf_base.proofs.StatusLemmas.{counts_same, kept_causes, none_failed, none_stopped, said_causes, said_record, starved_causes, stops_causes, stops_record}
 use Rattle.pf_base.proofs.ToldLemmas.{wrote_none}
-use Rattle.pf_base.specs.Clauses.Causes.{counted}
-use Rattle.pf_base.specs.Clauses.Objects.{Objects, Streams, log_text, out_text, sink_status, status_of}
-use Rattle.pf_base.specs.Clauses.Told.{wrote}
+use Rattle.pf_base.specs.Counts.{counted}
+use Rattle.pf_base.specs.Objects.{Objects, Streams, log_text, out_text, sink_status, status_of}
+use Rattle.pf_base.specs.Told.{wrote}
 use Rattle.pf_base.specs.Statuses.{HasCauses, NoneRose, counts_of, is_among}
 use Rattle.pf_base.specs.declared.pair.Pair.{Pair}
 use Rattle.pf_base.specs.declared.refused.Refused.{Refused}

@@ -4,15 +4,15 @@ use Rattle.std.proofs.Math.Path.{fun_ext}
 use Rattle.std.specs.Io.KnownBytes.{IsAtEnd}
 use Rattle.pf_base.proofs.ToldLemmas.{appended_more, takes_more, takes_none}
 use Rattle.pf_base.specs.Lines.{lines}
-use Rattle.pf_base.specs.Clauses.Objects.{Streams, appended, joined, out_text}
-use Rattle.pf_base.specs.Clauses.Told.{Takes, failed_input, found_end}
+use Rattle.pf_base.specs.Objects.{Streams, appended, joined, out_text}
+use Rattle.pf_base.specs.Told.{Takes, failed_input, found_end}
 use Rattle.pf_base.specs.declared.texts.SinkFault.{SinkFault}
 use Rattle.pf_base.specs.declared.texts.Texts.{Texts}
 use Rattle.pf_smtp.proofs.PieceLemmas.{joined_assoc}
 use Rattle.pf_smtp.proofs.StepLemmas.{onto_line_nothing}
 use Rattle.pf_smtp.proofs.TookLemmas.{texts_more, took_more, took_none}
-use Rattle.pf_smtp.specs.Clauses.Feeding.{fresh, given, texts_given, texts_of}
-use Rattle.pf_smtp.specs.Session.{session, start, steps}
+use Rattle.pf_smtp.specs.Clauses.Feeding.{fresh, given, texts_given}
+use Rattle.pf_smtp.specs.Session.{session, start, steps, texts_of}
 use Rattle.pf_smtp.specs.Step.{Step}
 use Rattle.pf_smtp.specs.Text.{greeting_of}
 use Rattle.pf_smtp.specs.declared.session.Going.TheVariants.{More, Over}

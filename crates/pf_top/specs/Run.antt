@@ -1,6 +1,6 @@
 -- What a run leaves, by the command that its words name. The statuses are postgate's own, as is the line that says how the program is used.
 use Rattle.std.specs.Prelude.{◌≡◌, ℕ, true, List, [], ◌∷◌, Option, None, Some, Result, ⊤, codes}
-use Rattle.pf_base.specs.Clauses.Objects.{Objects, status_of}
+use Rattle.pf_base.specs.Objects.{Objects, status_of}
 use Rattle.pf_base.specs.Statuses.{HasCauses, counts_of, is_among}
 use Rattle.pf_base.specs.declared.status.TheConstants.{LOG_FAILED, NO_MEMORY, USAGE}
 use Rattle.pf_base.specs.declared.texts.SinkFault.{SinkFault}

@@ -1,7 +1,7 @@
 -- What calls of one try leave. Words of the code's contracts, between single sends and `one_reply`.
 use Rattle.std.specs.Prelude.{◌≡◌, ◌≢◌, ◌⊎◌, ◌++◌, ℕ, List, [], ◌∷◌, Option, None, Some, take}
 use Rattle.std.specs.List.{count_by}
-use Rattle.pf_base.specs.Clauses.Causes.{counted_by}
+use Rattle.pf_base.specs.Counts.{counted_by}
 use Rattle.pf_asks.specs.Clauses.Held.{Held}
 use Rattle.pf_asks.specs.Clauses.Led.{IsSent, tried}
 use Rattle.pf_asks.specs.Wire.{Open, Wire, hung_up, is_down, next_outcome, reply_bytes, with_left}

@@ -1,10 +1,10 @@
 -- What contracts say of a call that asks: it led from one question to another. Words of contracts, by no standard.
 use Rattle.std.specs.Prelude.{◌≡◌, ◌≢◌, ◌≤◌, ◌+◌, ◌⊎◌, ◌++◌, ℕ, false, List, [], ◌∷◌, Option, None, Some, Result, Ok, Err, MatchResult, take, length}
 use Rattle.std.specs.List.{count_by}
-use Rattle.pf_base.specs.Clauses.Causes.{counted_by}
+use Rattle.pf_base.specs.Counts.{counted_by}
 use Rattle.pf_asks.specs.Heard.{Heard, ◌then◌}
 use Rattle.pf_asks.specs.Clauses.Held.{Held, Hears, Tells, called}
-use Rattle.pf_asks.specs.Clauses.Looking.{Looked, Stays, Tables, look_failed, looked_up}
+use Rattle.pf_asks.specs.Looking.{Looked, Stays, Tables, look_failed, looked_up}
 use Rattle.pf_asks.specs.Questions.{Ask, Means, ask, behind, done, look, try, ◌>>=◌}
 use Rattle.pf_asks.specs.Resolving.{Asked, ask_failed}
 use Rattle.pf_asks.specs.Tries.{Try}

@@ -50,11 +50,6 @@ unfoldable pub level_value : List (List ℕ × Kept) → ℕ → List ℕ → An
 level_value names zero name = Err TooDeep
 level_value names (suc n) name = meaning_value (level_value names n) (meaning_of names name)
 
--- the bytes of a value, if it is there
-abbrev pub content : Answer → List ℕ
-content (Ok bytes) = bytes
-content (Err flaw) = []
-
 -- these names mean what they stand for
 abbrev pub AreNames : List (List ℕ × Kept) → (List ℕ → Source) → Type 0
 AreNames names sources = (name : List ℕ) → meaning_of names name ≡ kept (sources name)

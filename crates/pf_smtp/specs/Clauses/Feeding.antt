@@ -2,10 +2,10 @@
 -- the session itself is the definition over its whole input.
 use Rattle.std.specs.Prelude.{◌≡◌, ℕ, ◌+◌, ◌++◌, Bool, false, List, [], take, if◌then◌else◌}
 use Rattle.pf_base.specs.Lines.{lines, rest}
-use Rattle.pf_base.specs.Clauses.Objects.{Sinks, appended}
+use Rattle.pf_base.specs.Objects.{Sinks, appended}
 use Rattle.pf_base.specs.Clauses.Pieces.{onto_line, unless_line}
 use Rattle.pf_base.specs.declared.texts.Texts.{Texts}
-use Rattle.pf_smtp.specs.Session.{start, steps, replies_text, records_text, log_text}
+use Rattle.pf_smtp.specs.Session.{start, steps, texts_of}
 use Rattle.pf_smtp.specs.Step.{Step, line_limit}
 use Rattle.pf_smtp.specs.declared.state.Setup.{Setup}
 use Rattle.pf_smtp.specs.declared.state.State.{State}
@@ -24,10 +24,6 @@ given standing bytes = steps standing.setup standing.state (onto_line standing.p
 -- what it has of a line that has not ended: a carriage return and one byte past the limit tell that a line is too long
 abbrev pub part_behind : Standing → List ℕ → List ℕ
 part_behind standing bytes = take (line_limit + 2) (unless_line (lines bytes) (standing.part ++ bytes) (rest bytes))
-
--- the texts of its replies, its record lines and its log lines
-abbrev pub texts_of : Setup → Step → Texts
-texts_of setup step = record { out = replies_text setup step; mail = records_text step; log = log_text step }
 
 -- what the bytes that come next have it write
 abbrev pub texts_given : Standing → List ℕ → Texts

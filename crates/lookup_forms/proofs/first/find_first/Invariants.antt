@@ -1,7 +1,7 @@
 use Rattle.std.proofs.Common.{◌≡◌, ◌≤◌, ◌+◌, ℕ, drop, List}
 use Rattle.pf_base.specs.declared.table_texts.TableId.{TableId}
 use Rattle.pf_asks.specs.Clauses.Led.{TablesLed}
-use Rattle.pf_asks.specs.Clauses.Looking.{Tables}
+use Rattle.pf_asks.specs.Looking.{Tables}
 use Rattle.lookup_forms.specs.Tables.{first_of}
 use Rattle.lookup_forms.proofs.first.find_first.Given as goal
 

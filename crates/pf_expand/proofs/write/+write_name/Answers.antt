@@ -1,6 +1,7 @@
 use Rattle.std.proofs.Common.{sym, ap, ◌∙◌, arith, append-nil, is_ok, ◌++◌}
 use Rattle.pf_expand.proofs.WriteLaws.{bad_there, wrote_more, domain_there, empty_there, host_there, none_there, one_less, text_there, zero_there}
-use Rattle.pf_expand.specs.Clauses.Meanings.{content, level_value}
+use Rattle.pf_expand.specs.Clauses.Meanings.{level_value}
+use Rattle.pf_expand.specs.Expansion.{content}
 use Rattle.pf_expand.specs.Clauses.Runs.{run}
 use Rattle.pf_expand.specs.declared.run.Mode.TheVariants.{Counts}
 use Rattle.pf_expand.proofs.write.+write_name.Goals as goal

@@ -1,5 +1,6 @@
 use Rattle.std.proofs.Common.{◌≡◌, ◌≤◌, ◌+◌, ◌*◌, ◌++◌, true, is_ok, drop}
-use Rattle.pf_expand.specs.Clauses.Meanings.{content, level_value}
+use Rattle.pf_expand.specs.Clauses.Meanings.{level_value}
+use Rattle.pf_expand.specs.Expansion.{content}
 use Rattle.pf_expand.specs.Clauses.Runs.{run}
 use Rattle.pf_expand.specs.Clauses.RunsMeant.{depth_of}
 use Rattle.pf_expand.specs.declared.run.Mode.TheVariants.{Counts}

@@ -2,7 +2,7 @@
 use Rattle.std.specs.Prelude.{◌≡◌, ◌<◌, ◌≤◌, ℕ, ◌+◌, Bool, true, false, List, Option, Result, Ok, Err}
 use Rattle.std.specs.List.{All}
 use Rattle.std.specs.Option.{ok_or}
-use Rattle.pf_base.specs.Clauses.Causes.{counted_by}
+use Rattle.pf_base.specs.Counts.{counted_by}
 use Rattle.pf_asks.specs.Clauses.Held.{Held, called}
 use Rattle.pf_asks.specs.declared.lookup.Found.{Found}
 use Rattle.pf_asks.specs.declared.lookup.TableFault.{TableFault}

@@ -3,7 +3,7 @@
 use Rattle.std.specs.Prelude.{◌≡◌, ◌<◌, ◌≤◌, ◌⊎◌, ℕ, List, Option, Result, OnOk, OnErr, IsErrOf, MatchResult, length, take}
 use Rattle.std.specs.Io.KnownBytes.{prepend_known, append_known, IsAtEnd}
 use Rattle.std.specs.Option.{option_map}
-use Rattle.pf_base.specs.Clauses.Causes.{counted, counted_by}
+use Rattle.pf_base.specs.Counts.{counted, counted_by}
 use Rattle.pf_base.specs.FileList.{with_file}
 use Rattle.pf_base.specs.declared.fault.OuterFault.{OuterFault}
 use Rattle.pf_base.specs.declared.fault.OuterFault.TheVariants.{Failed, NoMemory}

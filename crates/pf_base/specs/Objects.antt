@@ -1,7 +1,7 @@
 -- The objects outside that a run is given, what is written to the sinks among them, and how a fault breaks that off. Words of contracts, by no
 -- standard; that the record of messages is written before the log and that before the output is postgate's own.
 use Rattle.std.specs.Prelude.{◌≡◌, ◌≢◌, ◌⊎◌, ℕ, List, [], ◌++◌, Result, Ok, Err, MatchResult}
-use Rattle.pf_base.specs.Clauses.Told.{HoldsFront, Input, Output, Tree, failed_output, wrote}
+use Rattle.pf_base.specs.Told.{HoldsFront, Input, Output, Tree, failed_output, wrote}
 use Rattle.pf_base.specs.declared.fault.OuterFault.{OuterFault}
 use Rattle.pf_base.specs.declared.fault.OuterFault.TheVariants as outer
 use Rattle.pf_base.specs.declared.status.TheConstants.{LOG_FAILED, MAIL_FAILED, NO_MEMORY, OUT_FAILED}
