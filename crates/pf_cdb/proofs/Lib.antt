@@ -15,6 +15,7 @@ pub mod RoundLaws
 pub mod Rows
 pub mod SearchLaws
 pub mod SettledLaws
+pub mod SizeLaws
 pub mod StandsLaws
 pub mod WordLemmas
 pub mod WrittenLaws

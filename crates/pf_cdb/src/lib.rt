@@ -10,6 +10,7 @@ mod listing;
 mod opened;
 mod placing;
 mod search;
+mod sizing;
 mod span;
 mod writing;
 

@@ -10,6 +10,7 @@ ghost use Rattle.pf_cdb.specs.Written as spec;
 use crate::hashing::hash;
 use crate::layout::{HEADER_SIZE, LENGTHS_SIZE, SLOT_SIZE, Slot, TABLES};
 use crate::placing::fill;
+use crate::sizing::fits;
 use pf_base::{Bytes, FILE_LIMIT, List, NoMemory, Pair};
 use std::alloc::Global;
 
@@ -212,10 +213,10 @@ fn file_of(alloc: Global, entries: &[Pair]) -> Result<Bytes, WriteFault>
 }
 
 /// The bytes of the cdb file for the entries, in their order (cdb(5)). `check` accepts the file, `elements` gives of each key
-/// the first entry, and `find` its value. `TooLarge` comes only where the file would have more than `FILE_LIMIT` bytes, and no
-/// larger file is answered.
+/// the first entry, and `find` its value. `TooLarge` comes exactly where the file would have more than `FILE_LIMIT` bytes.
 pub fn write(alloc: Global, entries: &List<Pair>) -> Result<Bytes, WriteFault>
     ensures file { Unless result WriteFault.NoMemory (λ r. r ≡ spec.written_file entries.now) }
+    ensures large { 67108864 < length (spec.written entries.now) → result ≡ Err WriteFault.TooLarge }
     ensures sound { IfOk result (λ file. IsSound file) }
     ensures undamaged { IfOk result (λ file. first_damage file ≡ None) }
     ensures stands_for { IfOk result (λ file. elements_of file ≡ spec.firsts entries.now) }
@@ -223,5 +224,8 @@ pub fn write(alloc: Global, entries: &List<Pair>) -> Result<Bytes, WriteFault>
     ensures finds { (key : List ℕ) → IfOk result (λ file.
         find (λ pair. bytes_eq pair.key key) (elements_of file) ≡ find (λ pair. bytes_eq pair.key key) entries.now) }
 {
+    if !fits(entries) {
+        return Err(WriteFault::TooLarge);
+    }
     file_of(alloc, entries.as_slice())
 }

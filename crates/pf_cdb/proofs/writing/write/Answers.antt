@@ -1,4 +1,4 @@
-use Rattle.std.proofs.Common.{◌≡◌, None, ◌∙◌, subst}
+use Rattle.std.proofs.Common.{◌≡◌, None, Err, refl, ◌∙◌, subst, arith}
 use Rattle.std.specs.Prelude.{IfOk}
 use Rattle.std.specs.List.{find}
 use Rattle.std.specs.Str.{bytes_eq}
@@ -11,8 +11,19 @@ use Rattle.pf_cdb.specs.Damaged.{first_damage}
 use Rattle.pf_cdb.specs.Held.{elements_of}
 use Rattle.pf_cdb.specs.Sound.{IsSound}
 use Rattle.pf_cdb.specs.Written.{HasDistinctKeys, firsts, written, written_file}
-use Rattle.pf_cdb.specs.declared.writing.WriteFault.TheVariants.{NoMemory}
+use Rattle.pf_cdb.specs.declared.writing.WriteFault.TheVariants.{NoMemory, TooLarge}
 use Rattle.pf_cdb.proofs.writing.write.Goals as goal
+
+pub returns-then-not-fits : goal.returns-then-not-fits
+returns-then-not-fits c = record {
+  file = unless_written c.args.entries.now (Err TooLarge) tt tt (λ e. c.fits.ensures.no c.if-not-fits.true);
+  large = λ over. refl;
+  sound = tt;
+  undamaged = tt;
+  stands_for = tt;
+  distinct = λ distinct. tt;
+  finds = λ key. tt;
+}
 
 pub returns : goal.returns
 returns c =
@@ -24,6 +35,7 @@ returns c =
       file =
           subst (λ entries. Unless r NoMemory (λ answer. answer ≡ written_file entries)) c.as_slice.ensures
           (unless_written pairs r bytes fits c.file_of.ensures.large);
+      large = λ over. absurd (omega (arith, over, c.fits.ensures.yes c.if-not-fits.false));
       sound = if_written pairs IsSound r bytes fits (sound_written pairs);
       undamaged = if_written pairs (λ file. first_damage file ≡ None) r bytes fits (λ f. none_from_sound (written pairs) (sound_written pairs f));
       stands_for =
