@@ -99,7 +99,7 @@ fn first_end(before: End, class: End, behind: End) -> End
 }
 
 /// How a domain ends that is looked up in a table before its class is found and behind it. Where no count of faults rises
-/// the table is looked up once, and each table of the classes once at most.
+/// there is at most one lookup more than the classes have tables.
 pub fn access_around<T: Lookup>(
     alloc: Global,
     id: TableId,

@@ -1,8 +1,8 @@
 //! Addresses and paths (RFC 5321, 4.1.2).
-ghost use Rattle.std.specs.Prelude.{◌≡◌, IfOk};
+ghost use Rattle.std.specs.Prelude.{◌≡◌};
 
 use pf_base::{Bytes, NoMemory};
-use std::alloc::{AllocError, Global};
+use std::alloc::AllocError;
 
 /// A mail address (RFC 5321, 4.1.2): its local part, without the quotes and backslashes of its spelling, and its domain, a
 /// name or a literal with its brackets, as it was given. An empty domain is none.
@@ -10,18 +10,6 @@ use std::alloc::{AllocError, Global};
 pub struct Address {
     pub local: Bytes,
     pub domain: Bytes,
-}
-
-impl Address {
-    /// The same address again.
-    pub fn copy(&self, alloc: Global) -> Result<Address, NoMemory>
-        ensures { IfOk result (λ copy. copy ≡ self.now) }
-    {
-        Ok(Address {
-            local: self.local.copy(alloc)?,
-            domain: self.domain.copy(alloc)?,
-        })
-    }
 }
 
 /// A path (RFC 5321, 4.1.2). The source route that may stand in it is no part of it (RFC 5321, appendix C).

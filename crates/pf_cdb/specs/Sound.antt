@@ -1,4 +1,4 @@
--- What holds of a cdb file without damage, so that each place in it lies within it (cdb(5)). That it is looked for is postgate's own.
+-- What holds of a cdb file without damage, so that each place in it but that of an empty table lies within it (cdb(5)). That it is looked for is postgate's own.
 use Rattle.std.specs.Prelude.{ℕ, ◌+◌, ◌*◌, ◌%◌, ◌<◌, ◌≤◌, ◌≡◌, ◌≢◌, List, length}
 use Rattle.pf_cdb.specs.Hash.{hash_of}
 use Rattle.pf_cdb.specs.Layout.{key_at, key_length, slot_of, slots_in, table_at, value_length}

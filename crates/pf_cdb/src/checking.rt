@@ -137,7 +137,8 @@ fn first_in_slots(kind: Kind, file: &[u8]) -> Option<Damage>
     None
 }
 
-/// Whether a file is a whole cdb file: each place in it lies within it, and each slot holds the hash of its key (cdb(5)).
+/// Whether a file is a whole cdb file: each place in it but that of an empty table lies within
+/// it, and each slot that is used holds the hash of its key (cdb(5)).
 /// The five kinds of damage are looked for in their order, each in the whole file, in the tables and their slots in turn,
 /// and the first is answered. It takes no memory.
 pub fn check(file: &[u8]) -> Result<(), Damage>
