@@ -1,0 +1,59 @@
+//! Reads rows of addresses and nets as they are written and of what is said of each, and prints the rows where pf_cidr says
+//! otherwise, and how many rows there were.
+//!
+//! A row is `read¦TEXT¦PRINTED`, with `none` where the text writes no address. Rows that begin with `# ` are comments.
+#![tactic(auto)]
+
+use pf_base::{Bytes, NoMemory};
+use pf_cidr::Addr;
+use std::alloc::Global;
+use std::io;
+
+// The printed address of a text.
+fn printed(alloc: Global, text: &[u8]) -> Result<Bytes, NoMemory> {
+    match Addr::read(text) {
+        Some(addr) => addr.print(alloc),
+        None => Bytes::from_slice(alloc, b"none"),
+    }
+}
+
+// What is said of a text.
+fn said(alloc: Global, kind: &str, text: &[u8]) -> Result<Bytes, NoMemory> {
+    match kind {
+        "read" => printed(alloc, text),
+        _ => Bytes::from_slice(alloc, b"no such kind of row"),
+    }
+}
+
+// Prints a row where something else is said of its text.
+fn look_at(rt: &HostRuntime, alloc: Global, row: &str) -> io::Result<()> {
+    let Some((kind, rest)) = row.split_once('¦') else {
+        return println!(rt; "no row: {row}");
+    };
+    let Some((text, answer)) = rest.split_once('¦') else {
+        return println!(rt; "no row: {row}");
+    };
+    match said(alloc, kind, text.as_bytes()) {
+        Ok(bytes) => {
+            if bytes.as_slice() != answer.as_bytes() {
+                println!(rt; "not so: {row}")?;
+            }
+        }
+        Err(NoMemory) => println!(rt; "no memory: {row}")?,
+    }
+    Ok(())
+}
+
+fn main(rt: HostRuntime) -> io::Result<()> {
+    let alloc = rt.alloc();
+    let mut rows: u64 = 0;
+    for line in rt.lines(alloc) {
+        let line = line?;
+        if line.as_str().starts_with("# ") {
+            continue;
+        }
+        look_at(&rt, alloc, line.as_str())?;
+        rows = rows.saturating_add(1);
+    }
+    println!(rt; "{rows} rows")
+}
