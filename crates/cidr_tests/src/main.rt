@@ -1,11 +1,13 @@
 //! Reads rows of addresses and nets as they are written and of what is said of each, and prints the rows where pf_cidr says
 //! otherwise, and how many rows there were.
 //!
-//! A row is `read¦TEXT¦PRINTED`, with `none` where the text writes no address. Rows that begin with `# ` are comments.
+//! A row is `KIND¦TEXT¦ANSWER`, and a line feed of the text stands as `␤`. Of the kind `read` the text is an address and the
+//! answer the address as it is printed, or `none`; of the kind `net` a net, and `net`, `host bits` or `syntax`; of the kind
+//! `has` a net and on the next line an address, and `yes` or `no`. Rows that begin with `# ` are comments.
 #![tactic(auto)]
 
-use pf_base::{Bytes, NoMemory};
-use pf_cidr::Addr;
+use pf_base::{Bytes, NoMemory, cut_at};
+use pf_cidr::{Addr, Net, NetFault};
 use std::alloc::Global;
 use std::io;
 
@@ -17,10 +19,35 @@ fn printed(alloc: Global, text: &[u8]) -> Result<Bytes, NoMemory> {
     }
 }
 
+// Whether a text is a net.
+fn judged(text: &[u8]) -> &'static [u8] {
+    match Net::read(text) {
+        Ok(_) => b"net",
+        Err(NetFault::HostBits) => b"host bits",
+        Err(NetFault::Syntax) => b"syntax",
+    }
+}
+
+// Whether a net has an address.
+fn has(text: &[u8]) -> &'static [u8] {
+    let Some((net, addr)) = cut_at(text, b'\n') else {
+        return b"no address";
+    };
+    let Ok(net) = Net::read(net) else {
+        return b"no net";
+    };
+    match Addr::read(addr) {
+        None => b"no address",
+        Some(addr) => { if net.has(&addr) { b"yes" } else { b"no" } }
+    }
+}
+
 // What is said of a text.
 fn said(alloc: Global, kind: &str, text: &[u8]) -> Result<Bytes, NoMemory> {
     match kind {
         "read" => printed(alloc, text),
+        "net" => Bytes::from_slice(alloc, judged(text)),
+        "has" => Bytes::from_slice(alloc, has(text)),
         _ => Bytes::from_slice(alloc, b"no such kind of row"),
     }
 }
@@ -33,6 +60,7 @@ fn look_at(rt: &HostRuntime, alloc: Global, row: &str) -> io::Result<()> {
     let Some((text, answer)) = rest.split_once('¦') else {
         return println!(rt; "no row: {row}");
     };
+    let text = text.replace(alloc, '␤', "\n")?;
     match said(alloc, kind, text.as_bytes()) {
         Ok(bytes) => {
             if bytes.as_slice() != answer.as_bytes() {

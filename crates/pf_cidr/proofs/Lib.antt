@@ -1,3 +1,4 @@
 pub mod AddressLaws
+pub mod NumberLemmas
 pub mod PrintedLaws
 pub mod Rows

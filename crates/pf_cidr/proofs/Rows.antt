@@ -1,12 +1,15 @@
 -- Worked examples of the definitions, each by computation.
-use Rattle.std.proofs.Common.{◌≡◌, ℕ, List, [], ◌∷◌, None, Option, Some, refl, codes, map}
+use Rattle.std.proofs.Common.{◌≡◌, ℕ, true, false, List, [], ◌∷◌, None, Option, Some, Result, Ok, Err, refl, codes, map}
 use Rattle.std.specs.Fmt.{digits}
 use Rattle.std.specs.Net.Addr.{ipv4_bits, ipv6_bits}
 use Rattle.std.specs.Net.Reader.{read_ipv4, read_ipv6, read_number, read_octet, read_segment, read_segments}
 use Rattle.std.specs.Net.Text.{hex, hex_groups_text}
 use Rattle.pf_cidr.specs.Addresses.{address_of, printed}
+use Rattle.pf_cidr.specs.Nets.{Network, host_of, net_has, net_of}
 use Rattle.pf_cidr.specs.declared.address.Addr.{Addr}
 use Rattle.pf_cidr.specs.declared.address.Addr.TheVariants.{V4, V6}
+use Rattle.pf_cidr.specs.declared.net.NetFault.{NetFault}
+use Rattle.pf_cidr.specs.declared.net.NetFault.TheVariants.{HostBits, Syntax}
 
 -- texts and the addresses that they write
 abbrev texts : List (List ℕ)
@@ -72,3 +75,55 @@ addresses_are_printed : map printed addresses
     ∷ []
 unfolding digits hex hex_groups_text
 addresses_are_printed = refl
+
+-- texts and the nets that they write
+abbrev net_texts : List (List ℕ)
+net_texts =
+    codes "10.0.0.0/8"
+    ∷ codes "192.0.2.9"
+    ∷ codes "0.0.0.0/0"
+    ∷ codes "[2001:db8::]/32"
+    ∷ codes "::1"
+    ∷ codes "[::1]"
+    ∷ codes "10.0.0.1/8"
+    ∷ codes "128.0.0.0/0"
+    ∷ codes "10.0.0.0/33"
+    ∷ codes "10.0.0.0/08"
+    ∷ codes "10.0.0.0/"
+    ∷ codes "[10.0.0.0]/8"
+    ∷ codes "[2001:db8::/32]"
+    ∷ codes "joe"
+    ∷ []
+
+abbrev nets : List (Result Network NetFault)
+nets =
+    Ok (record { addr = V4 167772160; prefix = 8 })
+    ∷ Ok (record { addr = V4 3221225993; prefix = 32 })
+    ∷ Ok (record { addr = V4 0; prefix = 0 })
+    ∷ Ok (record { addr = V6 0x20010db8000000000000000000000000; prefix = 32 })
+    ∷ Ok (record { addr = V6 1; prefix = 128 })
+    ∷ Ok (record { addr = V6 1; prefix = 128 })
+    ∷ Err HostBits
+    ∷ Err HostBits
+    ∷ Err Syntax
+    ∷ Err Syntax
+    ∷ Err Syntax
+    ∷ Err Syntax
+    ∷ Err Syntax
+    ∷ Err Syntax
+    ∷ []
+
+nets_are_read : map net_of net_texts ≡ nets
+unfolding address_of host_of ipv4_bits ipv6_bits net_of read_ipv4 read_ipv6 read_number read_octet read_segment read_segments
+nets_are_read = refl
+
+-- the net 10.0.0.0/8 and addresses at its ends, and one that says the same in IPv6
+abbrev ten : Network
+ten = record { addr = V4 167772160; prefix = 8 }
+
+ends_of_a_net : map (net_has ten) (V4 167772159 ∷ V4 167772160 ∷ V4 184549375 ∷ V4 184549376 ∷ V6 0xffff0a000000 ∷ [])
+    ≡ false ∷ true ∷ true ∷ false ∷ false ∷ []
+ends_of_a_net = refl
+
+prefix_of_none_has_its_family : map (net_has (record { addr = V6 0; prefix = 0 })) (V6 0xffffffffffffffffffffffffffffffff ∷ V4 0 ∷ []) ≡ true ∷ false ∷ []
+prefix_of_none_has_its_family = refl

@@ -3,5 +3,8 @@
 #![tactic(auto)]
 
 mod address;
+mod net;
+mod numbers;
 
 pub use address::Addr;
+pub use net::{Net, NetFault};
