@@ -1,5 +1,6 @@
 pub mod AddressLaws
 pub mod Cases
+pub mod CountLaws
 pub mod FaultLemmas
 pub mod FindLaws
 pub mod NumberLemmas

@@ -156,6 +156,13 @@ all_behind (Err why) = refl
 pub table_is : (lines : List Logical) → goes_on start lines ≡ table_with lines
 table_is lines = goes start lines ∙ all_behind (lines_of zero lines)
 
+-- behind a line that is taken the others go on
+pub taken_at : (lines : List Logical) (r next : Reading) (i : ℕ) (logical : Logical) → i < length lines → logical ≡ get_or lines i logical
+    → takes r logical.line logical.text ≡ Ok next → goes_on r (drop i lines) ≡ goes_on next (drop (i + 1) lines)
+taken_at lines r next i logical within at is =
+    let first : drop i lines ≡ logical ∷ drop (i + 1) lines = drop_more lines i logical within ∙ ap (λ l. l ∷ drop (i + 1) lines) (sym at) in
+    rw (first, is)
+
 -- a line that is not taken is the one that is refused
 pub refused_at : (lines : List Logical) (r : Reading) (i : ℕ) (logical : Logical) (why : Reason) → i < length lines → logical ≡ get_or lines i logical
     → goes_on start lines ≡ goes_on r (drop i lines) → takes r logical.line logical.text ≡ Err why → table_with lines ≡ Err (logical.line, why)

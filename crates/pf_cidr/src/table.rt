@@ -1,5 +1,5 @@
 //! Tables of nets.
-ghost use Rattle.std.specs.Prelude.{◌≡◌, ◌≢◌, ◌<◌, length, slice_get, Some, IfSome, OnOk};
+ghost use Rattle.std.specs.Prelude.{◌≡◌, ◌≢◌, ◌<◌, [], length, slice_get, Some, IfSome, OnOk};
 ghost use Rattle.pf_base.specs.Clauses.Unless.{Unless};
 ghost use Rattle.pf_cidr.specs.Clauses.Faults.{as_fault};
 ghost use Rattle.pf_cidr.specs.Clauses.Taking as taking;
@@ -22,11 +22,14 @@ pub struct CidrTable {
 }
 
 impl Model for CidrTable {
-    ghost use Rattle.pf_cidr.specs.Tables.{Table};
+    ghost use Rattle.std.specs.Prelude.{◌≡◌, [], length};
+    ghost use Rattle.pf_cidr.specs.Tables.{Table, rules_of};
 
     ghost Value = { Table };
 
     ghost view = { λ table. record { entries = table.entries; results = table.results } };
+
+    ghost invariant = { λ table. length table.results ≡ length (rules_of [] table.entries) };
 }
 
 // A refusal.
@@ -112,6 +115,7 @@ impl Reading {
 
     // The table, once there is no further line.
     fn finish(self, alloc: Global, file: &[u8]) -> Result<CidrTable, ConfFault>
+        requires { length self.results ≡ length (tables.rules_of [] self.entries) }
         ensures { Unless result ConfFault.NoMemory (λ r. r ≡ as_fault (tables.or_refused file.now (taking.finished self self.pending))) }
     {
         if let [line, ..] = self.pending.as_slice() {
@@ -169,7 +173,8 @@ impl CidrTable {
     /// (cidr_table(5)). None where no rule applies.
     #[tactic(auto, unfolding(crate::specs::Tables::first_rule))]
     pub fn find(&self, addr: &Addr) -> Option<u64>
-        ensures { result ≡ tables.first_rule self.now.entries addr.now }
+        ensures is { result ≡ tables.first_rule self.now.entries addr.now }
+        ensures within { IfSome result (λ rule. rule < length self.now.results) }
     {
         // How many of the open conditions are passed over: those from the first on that does not match.
         let mut skipped: u64 = 0;
