@@ -186,7 +186,7 @@ impl Net {
             Addr::V4(own) => match *addr {
                 Addr::V4(bits) => {
                     let behind = V4_BITS - self.prefix;
-                    without_last(u128::from(bits), behind) == without_last(u128::from(own), behind)
+                    u64::from(bits) >> behind == u64::from(own) >> behind
                 }
                 Addr::V6(_) => false,
             },
