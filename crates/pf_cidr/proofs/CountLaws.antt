@@ -1,9 +1,9 @@
 -- A table has a result for each rule.
-use Rattle.std.proofs.Common.{◌≡◌, ℕ, suc, ◌+◌, ◌<◌, ◌==◌, Bool, true, false, List, [], ◌∷◌, ◌++◌, length, Option, Some, None, Result, Ok, Err, refl, sym, subst, arith, length-append}
-use Rattle.std.specs.Prelude.{IfSome, if◌then◌else◌}
+use Rattle.std.proofs.Common.{◌≡◌, ℕ, ◌+◌, ◌<◌, ◌==◌, List, [], ◌∷◌, ◌++◌, length, Result, Ok, Err, sym, subst, arith, length-append}
+use Rattle.std.specs.Prelude.{IfSome}
 use Rattle.std.specs.List.{position_from}
 use Rattle.pf_base.specs.Results.{◌>>=◌}
-use Rattle.pf_cidr.specs.Clauses.Taking.{closed, taken, takes, with_condition, with_rule}
+use Rattle.pf_cidr.specs.Clauses.Taking.{taken, takes, with_condition, with_rule}
 use Rattle.pf_cidr.specs.Tables.{applies, entry_of, first_rule, result_of, rules_of, value_of}
 use Rattle.pf_cidr.specs.declared.address.Addr.{Addr}
 use Rattle.pf_cidr.specs.declared.entry.Entry.{Entry}

@@ -7,7 +7,6 @@ use Rattle.std.specs.declared.net.ip_addr.IpAddr.TheVariants as family
 use Rattle.std.specs.Net.Addr.{ipv4_bits, ipv6_bits, octets_of, segments_of}
 use Rattle.std.proofs.NetLemmas.Texts.{IsColonHex-hex_groups_text, IsDotted-ipv4_text}
 use Rattle.pf_cidr.specs.Addresses.{IsWritten, printed}
-use Rattle.pf_cidr.specs.declared.address.Addr.{Addr}
 use Rattle.pf_cidr.specs.declared.address.Addr.TheVariants.{V4, V6}
 
 -- a number is what its bytes say

@@ -1,12 +1,12 @@
 -- Lines that are taken one after the other make the table.
-use Rattle.std.proofs.Common.{◌≡◌, ℕ, zero, suc, ◌+◌, ◌-◌, ◌<◌, ◌≤◌, ◌==◌, Bool, true, false, List, [], ◌∷◌, ◌++◌, length, get_or, take, drop, Option, Some, None, Result, Ok, Err, refl, sym, ap, ◌∙◌, append-nil, append_assoc, length-append, length-take-le, arith}
-use Rattle.std.specs.Prelude.{not, if◌then◌else◌}
+use Rattle.std.proofs.Common.{◌≡◌, ℕ, zero, suc, ◌+◌, ◌-◌, ◌<◌, ◌≤◌, true, List, [], ◌∷◌, ◌++◌, length, get_or, take, drop, Option, Some, None, Result, Ok, Err, refl, sym, ap, ◌∙◌, append-nil, append_assoc, length-append, length-take-le, arith}
+use Rattle.std.specs.Prelude.{if◌then◌else◌}
 use Rattle.std.proofs.lemmas.Bool.{ne_eqb}
 use Rattle.std.proofs.lemmas.List.{drop_all, drop_more}
 use Rattle.pf_base.specs.Results.{◌>>=◌}
 use Rattle.pf_base.specs.declared.logical.Logical.{Logical}
 use Rattle.pf_cidr.specs.Clauses.Taking.{closed, finished, taken, takes, with_condition, with_rule}
-use Rattle.pf_cidr.specs.Tables.{Line, Table, at_line, closes, entries_of, entry_of, first_unclosed, lines_of, open_behind, result_of, results_of, table_with, unless_unclosed, value_of}
+use Rattle.pf_cidr.specs.Tables.{Line, Table, at_line, closes, entries_of, entry_of, first_unclosed, lines_of, open_behind, results_of, table_with, unless_unclosed, value_of}
 use Rattle.pf_cidr.specs.declared.entry.Entry.{Entry}
 use Rattle.pf_cidr.specs.declared.entry.Entry.TheVariants.{Endif, If, Rule}
 use Rattle.pf_cidr.specs.declared.entry.Pattern.{Pattern}

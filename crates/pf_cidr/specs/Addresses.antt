@@ -1,6 +1,6 @@
 -- Addresses of hosts, and how they are written and printed (RFC 4291, 2.2; RFC 5952, 4). That an IPv4 number has no leading zeros, and
 -- that an IPv6 address is printed as groups alone, are postgate's own.
-use Rattle.std.specs.Prelude.{◌≡◌, ℕ, List, Option, Some, None, option_map}
+use Rattle.std.specs.Prelude.{◌≡◌, ℕ, List, Option, option_map}
 use Rattle.std.specs.Int.{w128, w32, to_be_bytes}
 use Rattle.std.specs.Option.{option_or}
 use Rattle.std.specs.declared.net.ip_addr.IpAddr.{IpAddr}

@@ -1,6 +1,6 @@
 -- Tables of nets (cidr_table(5)). That an address of the other family matches a pattern behind `!`, and the words of the reasons, are
 -- postgate's own.
-use Rattle.std.specs.Prelude.{ℕ, zero, suc, ◌++◌, ◌==◌, Bool, true, false, not, List, [], ◌∷◌, Option, Some, None, Result, Ok, Err, codes, length, map, take, drop, slice_index, if◌then◌else◌}
+use Rattle.std.specs.Prelude.{ℕ, zero, suc, ◌==◌, Bool, true, false, not, List, [], ◌∷◌, Option, Some, None, Result, Ok, Err, codes, length, map, take, drop, slice_index, if◌then◌else◌}
 use Rattle.std.specs.List.{flat_map, list_all, position_from, position_or_len}
 use Rattle.pf_base.specs.Ascii as ascii
 use Rattle.pf_base.specs.Logical.{Grouped, Physical, grouped, physical_lines}

@@ -19,9 +19,8 @@ returns c =
 
 pub loop-logical-preserved : goal.loop-logical-preserved
 loop-logical-preserved c =
-    let taken = rw c.as_slice.ensures at c.in-Ok.ensures in
-    (
+    let taken = rw c.as_slice.ensures at c.in-Ok.ensures in (
       c.loop-logical.invariant.0
-      ∙ taken_at c.args.lines.now c.loop-logical.reading c.take.new.self c.loop-logical.logical-index c.logical-item.result (omega arith) c.logical-item.is taken,
+          ∙ taken_at c.args.lines.now c.loop-logical.reading c.take.new.self c.loop-logical.logical-index c.logical-item.result (omega arith) c.logical-item.is taken,
       takes_counted c.loop-logical.reading c.take.new.self c.logical-item.result.line c.logical-item.result.text taken c.loop-logical.invariant.1,
     )

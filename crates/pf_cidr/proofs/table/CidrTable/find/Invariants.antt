@@ -1,5 +1,4 @@
 use Rattle.std.proofs.Common.{◌≡◌, ◌≤◌, drop}
-use Rattle.pf_cidr.specs.Tables.{first_rule}
 use Rattle.pf_cidr.proofs.FindLaws.{walk}
 use Rattle.pf_cidr.proofs.table.CidrTable.find.Given as goal
 
