@@ -1,0 +1,9 @@
+pub mod AddressLaws
+pub mod Cases
+pub mod CountLaws
+pub mod FaultLemmas
+pub mod FindLaws
+pub mod NumberLemmas
+pub mod PrintedLaws
+pub mod Rows
+pub mod TakingLaws

@@ -1,0 +1,3 @@
+-- Words of contracts, between the code and the definitions.
+pub mod Faults
+pub mod Taking

@@ -1,0 +1,5 @@
+pub mod Addresses
+pub mod Clauses
+pub mod Nets
+pub mod Numbers
+pub mod Tables
