@@ -1,0 +1,6 @@
+pub mod MemoryLemmas
+pub mod PairLemmas
+pub mod PlaceLemmas
+pub mod ResultLaws
+pub mod Rows
+pub mod TextLemmas
