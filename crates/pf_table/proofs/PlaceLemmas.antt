@@ -1,17 +1,19 @@
 -- Lists that are taken place by place.
-use Rattle.std.proofs.Common.{◌≡◌, ◌<◌, ◌+◌, ◌++◌, ℕ, List, [], ◌∷◌, None, Some, length, take, get_or, refl, sym, ap, ◌∙◌, subst}
-use Rattle.std.proofs.lemmas.List.{take_more}
-use Rattle.std.proofs.lemmas.Option.{get_or_from_slice_get, slice_get_within, slice_get-get_or}
-use Rattle.std.specs.Prelude.{slice_get}
+use Rattle.std.proofs.Common.{◌≡◌, ◌+◌, ◌++◌, ℕ, zero, suc, List, [], ◌∷◌, take, refl, ap, sym, ◌∙◌, arith}
+use Rattle.std.proofs.lemmas.Option.{slice_get-map}
+use Rattle.std.specs.Option.{option_map, option_to_list}
+use Rattle.std.specs.Prelude.{map, slice_get}
 
--- one more
-pub take_one : {A : Type 0} (xs : List A) (i : ℕ) (x : A) → slice_get xs i ≡ Some x → take (i + 1) xs ≡ take i xs ++ x ∷ []
-take_one xs i x at = take_more xs i x (slice_get_within xs i x at) ∙ ap (λ y. take i xs ++ y ∷ []) (get_or_from_slice_get xs i x x at)
+step : {A : Type 0} (xs : List A) (i : ℕ) → take (suc i) xs ≡ take i xs ++ option_to_list (slice_get xs i)
+step [] zero = refl
+step [] (suc i) = refl
+step (x ∷ xs) zero = refl
+step (x ∷ xs) (suc i) = ap (λ more. x ∷ more) (step xs i)
 
--- a place below the length has an item
-pub not_none : {A : Type 0} (xs : List A) (i : ℕ) → slice_get xs i ≡ None → i < length xs → ⊥
-not_none [] i none lt = absurd_lt i lt
-  where
-    absurd_lt : (i : ℕ) → i < 0 → ⊥
-    absurd_lt i lt = cc
-not_none (x ∷ xs) i none lt = let e : Some (get_or (x ∷ xs) i x) ≡ None = sym (slice_get-get_or (x ∷ xs) i x lt) ∙ none in cc
+-- one place more
+pub take_next : {A : Type 0} (xs : List A) (i : ℕ) → take (i + 1) xs ≡ take i xs ++ option_to_list (slice_get xs i)
+take_next xs i = let e : i + 1 ≡ suc i = omega arith in rw e (step xs i)
+
+-- the same of what is made of each item
+pub take_next_made : {A B : Type 0} (f : A → B) (xs : List A) (i : ℕ) → take (i + 1) (map f xs) ≡ take i (map f xs) ++ option_to_list (option_map f (slice_get xs i))
+take_next_made f xs i = take_next (map f xs) i ∙ ap (λ item. take i (map f xs) ++ option_to_list item) (slice_get-map f xs i)

@@ -1,5 +1,7 @@
 -- What a text table is read as, once its lines are known.
-use Rattle.std.proofs.Common.{◌≡◌, ℕ, Bool, List, [], ◌∷◌, Result, Ok, Err, refl, sym, ap}
+use Rattle.std.proofs.Common.{◌≡◌, ◌<◌, ◌+◌, ℕ, Bool, List, [], ◌∷◌, Result, Ok, Err, length, drop, get_or, refl, sym, ap, ◌∙◌}
+use Rattle.std.proofs.lemmas.List.{at_drop_more}
+use Rattle.std.specs.List.{fold}
 use Rattle.pf_base.specs.Logical.{Grouped, Physical, grouped, logical_lines_of, physical_lines, unless_leading}
 use Rattle.pf_base.specs.Results.{◌>>=◌}
 use Rattle.pf_base.specs.declared.logical.Logical.{Logical}
@@ -9,7 +11,7 @@ use Rattle.pf_base.specs.declared.refused.Cause.TheVariants.{C1}
 use Rattle.pf_base.specs.declared.refused.ConfFault.{ConfFault}
 use Rattle.pf_base.specs.declared.refused.Refused.{Refused}
 use Rattle.pf_table.specs.Clauses.Faults.{as_fault}
-use Rattle.pf_table.specs.Text.{entries_in, refused, table_with, text_read, unless_continued}
+use Rattle.pf_table.specs.Text.{entries_in, entry_of, lines_read, refused, table_with, text_read, unless_continued, with_entry}
 use Rattle.pf_table.specs.declared.pairs.Repeats.{Repeats}
 use Rattle.pf_table.specs.declared.text.Entries.{Entries}
 use Rattle.pf_table.specs.declared.text.TextRead.{TextRead}
@@ -46,3 +48,12 @@ continued file folds repeats text line is = by (grouped (physical_lines text)).l
         ≡ Err (refused file line C1 [])
     by [] is = cc
     by (first ∷ leading) is = let same : line ≡ first.number = cc in ap (λ n. Err (refused file n C1 [])) (sym same)
+
+-- the first line that has no entry
+pub entry_fault : (file : List ℕ) (folds : Bool) (repeats : Repeats) (lines : List Logical) (i : ℕ) (logical : Logical) (entries : Entries) (fault : ConfFault)
+    → i < length lines → logical ≡ get_or lines i logical
+    → entries_in file folds repeats lines ≡ (lines_read file folds (drop i lines) >>= (λ behind. Ok (fold (with_entry repeats) entries behind)))
+    → Err fault ≡ as_fault (entry_of file folds logical) → Err fault ≡ as_fault (entries_in file folds repeats lines)
+entry_fault file folds repeats lines i logical entries fault lt item so is =
+    let at : drop i lines ≡ logical ∷ drop (i + 1) lines = at_drop_more (λ xs. xs) lines i logical lt ∙ ap (λ first. first ∷ drop (i + 1) lines) (sym item) in
+    rw (so, at) (stays_fault _ _ fault (stays_fault (entry_of file folds logical) _ fault is))

@@ -79,13 +79,7 @@ fn behind_quote(text: &[u8]) -> Option<&[u8]>
 {
     match text {
         [] => None,
-        [first, behind @ ..] => {
-            if *first == b'"' {
-                Some(behind)
-            } else {
-                None
-            }
-        }
+        [first, behind @ ..] => { if *first == b'"' { Some(behind) } else { None } }
     }
 }
 

@@ -1,7 +1,7 @@
 //! Pairs in the order of their keys, each key once.
-ghost use Rattle.std.specs.Prelude.{◌≡◌, ℕ, List as Seq, [], map, length, slice_get, IfOk, OnOk};
-ghost use Rattle.std.specs.List.{find, list_any};
-ghost use Rattle.std.specs.Option.{option_copied, option_map};
+ghost use Rattle.std.specs.Prelude.{◌≡◌, ◌++◌, [], map, length, slice_get, IfOk, OnOk};
+ghost use Rattle.std.specs.List.{find};
+ghost use Rattle.std.specs.Option.{option_copied, option_map, option_to_list};
 ghost use Rattle.std.specs.Str.{bytes_eq};
 ghost use Rattle.pf_table.specs.Pairs as spec;
 ghost use Rattle.pf_table.specs.Tables as tables;
@@ -73,14 +73,24 @@ impl Pairs {
         }
     }
 
+    // Adds a pair; of one key the first counts.
+    fn put_new(&mut self, pair: Pair) -> Result<(), NoMemory>
+        ensures { OnOk result (self.new ≡ spec.with_pair Repeats.First self.old pair) }
+    {
+        if self.has(&pair.key) {
+            return Ok(());
+        }
+        self.put(pair)
+    }
+
     /// Adds a pair; of one key the first counts, or the last in its place.
     pub(crate) fn add(&mut self, repeats: Repeats, pair: Pair) -> Result<(), NoMemory>
         ensures { OnOk result (self.new ≡ spec.with_pair repeats self.old pair) }
     {
-        if repeats == Repeats::First && self.has(&pair.key) {
-            return Ok(());
+        match repeats {
+            Repeats::First => self.put_new(pair),
+            Repeats::Last => self.put(pair),
         }
-        self.put(pair)
     }
 
     // The value of a key.
@@ -108,7 +118,7 @@ impl Pairs {
     }
 
     // The pair at a place.
-    fn pair(&self, alloc: Global, place: usize) -> Result<Option<Pair>, NoMemory>
+    fn pair_at(&self, alloc: Global, place: usize) -> Result<Option<Pair>, NoMemory>
         ensures { IfOk result (λ pair. pair ≡ slice_get self.now place) }
     {
         match self.values.get_index(place) {
@@ -120,15 +130,48 @@ impl Pairs {
         }
     }
 
+    // The value of the pair at a place.
+    fn value_at(&self, alloc: Global, place: usize) -> Result<Option<Bytes>, NoMemory>
+        ensures { IfOk result (λ value. value ≡ option_map (λ pair. pair.value) (slice_get self.now place)) }
+    {
+        match self.values.get_index(place) {
+            None => Ok(None),
+            Some((_, value)) => Ok(Some(value.copy(alloc)?)),
+        }
+    }
+
+    // Adds the pair at a place, if there is one.
+    fn add_pair(&self, alloc: Global, place: usize, pairs: &mut List<Pair>) -> Result<(), NoMemory>
+        ensures { OnOk result (pairs.new ≡ pairs.old ++ option_to_list (slice_get self.now place)) }
+    {
+        match self.pair_at(alloc, place)? {
+            None => Ok(()),
+            Some(pair) => pairs.push(pair),
+        }
+    }
+
+    // Adds the value of the pair at a place, if there is one.
+    fn add_value(
+        &self,
+        alloc: Global,
+        place: usize,
+        values: &mut List<Bytes>,
+    ) -> Result<(), NoMemory>
+        ensures { OnOk result (values.new ≡ values.old ++ option_to_list (option_map (λ pair. pair.value) (slice_get self.now place))) }
+    {
+        match self.value_at(alloc, place)? {
+            None => Ok(()),
+            Some(value) => values.push(value),
+        }
+    }
+
     /// All pairs.
     pub(crate) fn list(&self, alloc: Global) -> Result<List<Pair>, NoMemory>
         ensures { IfOk result (λ pairs. pairs ≡ self.now) }
     {
         let mut pairs = List::new(alloc);
         for place in 0..self.len() {
-            if let Some(pair) = self.pair(alloc, place)? {
-                pairs.push(pair)?;
-            }
+            self.add_pair(alloc, place, &mut pairs)?;
         }
         Ok(pairs)
     }
@@ -139,9 +182,7 @@ impl Pairs {
     {
         let mut values = List::new(alloc);
         for place in 0..self.len() {
-            if let Some(pair) = self.pair(alloc, place)? {
-                values.push(pair.value)?;
-            }
+            self.add_value(alloc, place, &mut values)?;
         }
         Ok(values)
     }

@@ -9,7 +9,7 @@ use pf_base::{Bytes, List, NoMemory};
 use std::alloc::Global;
 
 /// Which values a table may give.
-#[derive(Debug, PartialEq, Eq, Drop)]
+#[derive(Debug, Drop)]
 pub enum Results {
     /// These, in the order of its pairs.
     Listed(List<Bytes>),

@@ -61,7 +61,13 @@ impl Entries {
     }
 }
 
-fn refusal(alloc: Global, file: &[u8], line: u64, cause: Cause, name: &[u8]) -> Result<Refused, NoMemory>
+fn refusal(
+    alloc: Global,
+    file: &[u8],
+    line: u64,
+    cause: Cause,
+    name: &[u8],
+) -> Result<Refused, NoMemory>
     ensures { IfOk result (λ refused. refused ≡ spec.refused file.now line cause name.now) }
 {
     Ok(Refused {
@@ -87,13 +93,7 @@ fn entry_of(alloc: Global, file: &[u8], folds: bool, logical: &Logical) -> Resul
 {
     match pair_of(alloc, folds, logical.text.as_slice()) {
         Err(NoMemory) => Err(ConfFault::NoMemory),
-        Ok(Err(reason)) => Err(refused(
-            alloc,
-            file,
-            logical.line,
-            Cause::C11,
-            reason.text(),
-        )),
+        Ok(Err(reason)) => Err(refused(alloc, file, logical.line, Cause::C11, reason.text())),
         Ok(Ok(pair)) => Ok(Entry {
             line: logical.line,
             pair,
@@ -168,7 +168,13 @@ impl TextTable {
             }
             Err(TextFault::NoMemory) => return Err(ConfFault::NoMemory),
         };
-        let Entries { pairs, repeated } = entries_in(alloc, file, folded, repeats, lines.as_slice())?;
+        let Entries { pairs, repeated } = entries_in(
+            alloc,
+            file,
+            folded,
+            repeats,
+            lines.as_slice(),
+        )?;
         Ok(TextRead {
             table: TextTable {
                 folds: folded,

@@ -136,12 +136,7 @@ fn say(
             let table = StaticTable::new(Bytes::from_slice(alloc, text.as_bytes())?);
             add_found(alloc, said, &table, key.unwrap_or("").as_bytes())
         }
-        _ => add_found(
-            alloc,
-            said,
-            &FailTable::new(),
-            key.unwrap_or("").as_bytes(),
-        ),
+        _ => add_found(alloc, said, &FailTable::new(), key.unwrap_or("").as_bytes()),
     }
 }
 
