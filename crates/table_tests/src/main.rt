@@ -3,14 +3,19 @@
 //!
 //! A row is `KIND¦TEXT¦SAID`. KIND is `text` or `inline`, with ` -f` behind it where keys are not folded and ` -r` where the last
 //! of repeated keys counts; SAID then has the pairs, each as `KEY=VALUE`, and the repeated keys, each as `#LINE KEY`, all parted by
-//! bars, or the line of the refusal. Where a KEY stands behind KIND and a question mark, SAID is the value, `none` or `fails`; such a
-//! KIND may also be `static` or `fail`. A line feed, a carriage return, a tab and a byte of 0 stand as `␊`, `␍`, `␉` and `␀`.
+//! bars, or the line of the refusal. Where a KEY stands behind KIND and a question mark, SAID is the value, `none` or `fails`; where
+//! an asterisk stands there, SAID is `partial` and each value that the table may give. Such a KIND may also be `static` or `fail`. In
+//! `first N?KEY` TEXT is inline tables, parted by `;`, that are asked in turn, and the lookup of number N fails: then SAID may be
+//! `failed`. A line feed, a carriage return, a tab and a byte of 0 stand as `␊`, `␍`, `␉` and `␀`.
 //! Rows that begin with `# ` are comments.
 #![tactic(auto)]
 
 use pf_asks::{Found, TableFault};
-use pf_base::{Bytes, ConfFault, List, NoMemory, Pair, decimal};
-use pf_table::{FailTable, Inline, Repeated, Repeats, StaticTable, Table, TextTable};
+use pf_base::{Bytes, ConfFault, List, NoMemory, Pair, TableId, decimal};
+use pf_table::{
+    FailTable, FixedLookup, Inline, Repeated, Repeats, Results, StaticTable, Table, TextTable,
+    find_first,
+};
 use std::alloc::{AllocError, Global};
 use std::io;
 
@@ -62,13 +67,16 @@ fn add_fault(alloc: Global, said: &mut Bytes, fault: &ConfFault) -> Result<(), N
     }
 }
 
-fn add_found<T: Table>(
-    alloc: Global,
-    said: &mut Bytes,
-    table: &T,
-    key: &[u8],
-) -> Result<(), NoMemory> {
-    match table.find(alloc, key) {
+// What a row asks of a table: its pairs, the value of a key, or the values that it may give.
+#[derive(Clone, Copy)]
+enum Question<'a> {
+    Pairs,
+    Key(&'a str),
+    Results,
+}
+
+fn add_answer(said: &mut Bytes, answer: Result<Found, TableFault>) -> Result<(), NoMemory> {
+    match answer {
         Ok(Found::Value(value)) => add_field(said, &[value.as_slice()]),
         Ok(Found::Absent) => add_field(said, &[b"none"]),
         Err(TableFault::Fails) => add_field(said, &[b"fails"]),
@@ -77,45 +85,101 @@ fn add_found<T: Table>(
     }
 }
 
-// What is said of a text table, or of a key in it.
+fn add_results<T: Table>(alloc: Global, said: &mut Bytes, table: &T) -> Result<(), NoMemory> {
+    if table.partial_keys() {
+        add_field(said, &[b"partial"])?;
+    }
+    match table.results(alloc)? {
+        Results::Anything => add_field(said, &[b"anything"])?,
+        Results::Listed(values) => {
+            for value in values.as_slice() {
+                add_field(said, &[value.as_slice()])?;
+            }
+        }
+    }
+    Ok(())
+}
+
+// What is said of a table beside its pairs.
+fn ask<T: Table>(
+    alloc: Global,
+    said: &mut Bytes,
+    table: &T,
+    question: Question<'_>,
+) -> Result<(), NoMemory> {
+    match question {
+        Question::Pairs => Ok(()),
+        Question::Key(key) => add_answer(said, table.find(alloc, key.as_bytes())),
+        Question::Results => add_results(alloc, said, table),
+    }
+}
+
+// What is said of the first of some tables that has a key.
+fn say_first(
+    alloc: Global,
+    said: &mut Bytes,
+    text: &str,
+    failing: u64,
+    key: &str,
+) -> Result<(), NoMemory> {
+    let mut tables = List::new(alloc);
+    let mut ids = List::new(alloc);
+    for part in text.split(';') {
+        let Ok(table) = Inline::read(alloc, b"main.cf", 7, part.as_bytes(), false) else {
+            return add_field(said, &[b"no table"]);
+        };
+        ids.push(TableId(tables.len()))?;
+        tables.push(table.pairs(alloc)?)?;
+    }
+    let mut numbers = List::new(alloc);
+    numbers.push(failing)?;
+    let mut lookup = FixedLookup::new(tables, numbers);
+    if !lookup.has(ids.as_slice()) {
+        return add_field(said, &[b"no such table"]);
+    }
+    let answer = find_first(alloc, &mut lookup, &ids, key.as_bytes());
+    add_answer(said, answer)
+}
+
+// What is said of a text table.
 fn say_text(
     alloc: Global,
     said: &mut Bytes,
     text: &str,
     folds: bool,
     repeats: Repeats,
-    key: Option<&str>,
+    question: Question<'_>,
 ) -> Result<(), NoMemory> {
     match TextTable::read(alloc, b"t", text.as_bytes(), folds, repeats) {
         Err(fault) => add_fault(alloc, said, &fault),
-        Ok(read) => match key {
-            Some(key) => add_found(alloc, said, &read.table, key.as_bytes()),
-            None => {
+        Ok(read) => {
+            if let Question::Pairs = question {
                 let pairs = read.table.pairs(alloc)?;
                 add_pairs(said, &pairs)?;
-                add_repeated(alloc, said, &read.repeated)
+                add_repeated(alloc, said, &read.repeated)?;
             }
-        },
+            ask(alloc, said, &read.table, question)
+        }
     }
 }
 
-// What is said of an inline table, or of a key in it.
+// What is said of an inline table.
 fn say_inline(
     alloc: Global,
     said: &mut Bytes,
     text: &str,
     folds: bool,
-    key: Option<&str>,
+    question: Question<'_>,
 ) -> Result<(), NoMemory> {
     match Inline::read(alloc, b"main.cf", 7, text.as_bytes(), folds) {
         Err(fault) => add_fault(alloc, said, &fault),
-        Ok(table) => match key {
-            Some(key) => add_found(alloc, said, &table, key.as_bytes()),
-            None => {
+        Ok(table) => {
+            if let Question::Pairs = question {
                 let pairs = table.pairs(alloc)?;
-                add_pairs(said, &pairs)
+                add_pairs(said, &pairs)?;
             }
-        },
+            ask(alloc, said, &table, question)
+        }
     }
 }
 
@@ -124,19 +188,36 @@ fn say(
     said: &mut Bytes,
     kind: &str,
     text: &str,
-    key: Option<&str>,
+    question: Question<'_>,
 ) -> Result<(), NoMemory> {
     match kind {
-        "text" => say_text(alloc, said, text, true, Repeats::First, key),
-        "text -f" => say_text(alloc, said, text, false, Repeats::First, key),
-        "text -r" => say_text(alloc, said, text, true, Repeats::Last, key),
-        "inline" => say_inline(alloc, said, text, true, key),
-        "inline -f" => say_inline(alloc, said, text, false, key),
+        "text" => say_text(alloc, said, text, true, Repeats::First, question),
+        "text -f" => say_text(alloc, said, text, false, Repeats::First, question),
+        "text -r" => say_text(alloc, said, text, true, Repeats::Last, question),
+        "inline" => say_inline(alloc, said, text, true, question),
+        "inline -f" => say_inline(alloc, said, text, false, question),
         "static" => {
             let table = StaticTable::new(Bytes::from_slice(alloc, text.as_bytes())?);
-            add_found(alloc, said, &table, key.unwrap_or("").as_bytes())
+            ask(alloc, said, &table, question)
         }
-        _ => add_found(alloc, said, &FailTable::new(), key.unwrap_or("").as_bytes()),
+        "fail" => ask(alloc, said, &FailTable::new(), question),
+        _ => add_field(said, &[b"no such kind"]),
+    }
+}
+
+// What is said of the tables of a text.
+fn say_of(alloc: Global, said: &mut Bytes, front: &str, text: &str) -> Result<(), NoMemory> {
+    match front.split_once('?') {
+        Some((kind, key)) => match kind.strip_prefix("first ") {
+            Some(number) => {
+                say_first(alloc, said, text, number.parse::<u64>().unwrap_or(0), key)
+            }
+            None => say(alloc, said, kind, text, Question::Key(key)),
+        },
+        None => match front.strip_suffix("*") {
+            Some(kind) => say(alloc, said, kind, text, Question::Results),
+            None => say(alloc, said, front, text, Question::Pairs),
+        },
     }
 }
 
@@ -144,10 +225,7 @@ fn say(
 fn row_of(alloc: Global, front: &str, text: &str) -> Result<Bytes, NoMemory> {
     let mut said = Bytes::from_slice(alloc, front.as_bytes())?;
     add_field(&mut said, &[text.as_bytes()])?;
-    match front.split_once('?') {
-        Some((kind, key)) => say(alloc, &mut said, kind, text, Some(key))?,
-        None => say(alloc, &mut said, front, text, None)?,
-    }
+    say_of(alloc, &mut said, front, text)?;
     Ok(said)
 }
 
