@@ -1,13 +1,11 @@
 -- Pairs that are kept in a map.
-use Rattle.std.proofs.Common.{◌≡◌, ◌||◌, ℕ, Bool, true, false, List, [], ◌∷◌, Option, None, Some, is_some, refl, sym, ap, ◌∙◌, cond, if◌then◌else◌}
+use Rattle.std.proofs.Common.{◌≡◌, ◌||◌, ℕ, Bool, true, false, List, [], ◌∷◌, Option, None, Some, is_some, refl, ap, cond, if◌then◌else◌}
 use Rattle.indexmap.specs.IndexMap.{insert_entry}
-use Rattle.std.specs.List.{find, list_any}
+use Rattle.std.specs.List.{find}
 use Rattle.std.specs.Map.{lookup}
 use Rattle.std.specs.Option.{option_map}
-use Rattle.std.specs.Prelude.{map, slice_get}
 use Rattle.std.specs.Str.{bytes_eq}
 use Rattle.pf_base.specs.declared.pair.Pair.{Pair}
-use Rattle.pf_asks.specs.declared.lookup.Found.{Found}
 use Rattle.pf_table.specs.Pairs.{counting, entries_as_pairs, has_key, with_pair}
 use Rattle.pf_table.specs.Tables.{found_as, found_in}
 use Rattle.pf_table.specs.declared.pairs.Repeats.TheVariants.{First, Last}

@@ -1,5 +1,5 @@
 -- Worked examples of the definitions, each by computation.
-use Rattle.std.proofs.Common.{◌≡◌, ℕ, true, false, List, [], ◌∷◌, None, Some, Ok, Err, refl, codes}
+use Rattle.std.proofs.Common.{◌≡◌, ℕ, true, false, List, [], ◌∷◌, Ok, Err, refl, codes}
 use Rattle.pf_base.specs.declared.pair.Pair.{Pair}
 use Rattle.pf_base.specs.Words.{words_of}
 use Rattle.pf_base.specs.declared.refused.Cause.TheVariants.{C1, C11}
@@ -14,7 +14,7 @@ use Rattle.pf_table.specs.First.{first_of}
 use Rattle.pf_table.specs.Inline.{inline_of, refused}
 use Rattle.pf_table.specs.Line.{pair_of}
 use Rattle.pf_table.specs.Pairs.{pairs_of}
-use Rattle.pf_table.specs.Tables.{Keyed, fail_meaning, found_in, keyed_meaning, static_meaning}
+use Rattle.pf_table.specs.Tables.{Keyed, fail_meaning, keyed_meaning, static_meaning}
 use Rattle.pf_table.specs.Text.{text_read}
 use Rattle.pf_table.specs.Text as text
 use Rattle.pf_table.specs.declared.line.Reason.TheVariants.{NoValue, QuoteNotClosed}

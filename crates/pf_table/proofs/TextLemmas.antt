@@ -1,11 +1,10 @@
 -- What a text table is read as, once its lines are known.
-use Rattle.std.proofs.Common.{◌≡◌, ◌<◌, ◌+◌, ℕ, Bool, List, [], ◌∷◌, Result, Ok, Err, length, drop, get_or, refl, sym, ap, ◌∙◌}
+use Rattle.std.proofs.Common.{◌≡◌, ◌<◌, ◌+◌, ℕ, Bool, List, [], ◌∷◌, Result, Ok, Err, length, drop, get_or, sym, ap, ◌∙◌}
 use Rattle.std.proofs.lemmas.List.{at_drop_more}
 use Rattle.std.specs.List.{fold}
-use Rattle.pf_base.specs.Logical.{Grouped, Physical, grouped, logical_lines_of, physical_lines, unless_leading}
+use Rattle.pf_base.specs.Logical.{Physical, grouped, logical_lines_of, physical_lines, unless_leading}
 use Rattle.pf_base.specs.Results.{◌>>=◌}
 use Rattle.pf_base.specs.declared.logical.Logical.{Logical}
-use Rattle.pf_base.specs.declared.logical.TextFault.{TextFault}
 use Rattle.pf_base.specs.declared.logical.TextFault.TheVariants.{Continuation}
 use Rattle.pf_base.specs.declared.refused.Cause.TheVariants.{C1}
 use Rattle.pf_base.specs.declared.refused.ConfFault.{ConfFault}
@@ -14,7 +13,6 @@ use Rattle.pf_table.specs.Clauses.Faults.{as_fault}
 use Rattle.pf_table.specs.Text.{entries_in, entry_of, lines_read, refused, table_with, text_read, unless_continued, with_entry}
 use Rattle.pf_table.specs.declared.pairs.Repeats.{Repeats}
 use Rattle.pf_table.specs.declared.text.Entries.{Entries}
-use Rattle.pf_table.specs.declared.text.TextRead.{TextRead}
 
 pub there : {A : Type 0} (answer : Result A Refused) (x : A) → Ok x ≡ as_fault answer → answer ≡ Ok x
 there (Ok y) x is = cc

@@ -1,7 +1,7 @@
 -- Tables that stand in their specification (DATABASE_README, inline). That an item without braces has no space in it, and that of repeated
 -- keys the first counts, is postgate's own.
 use Rattle.std.specs.Prelude.{ℕ, ◌+◌, ◌++◌, ◌==◌, Bool, nat_lt, List, [], ◌∷◌, Option, None, Some, Result, Ok, Err, codes, length, take, drop, if◌then◌else◌}
-use Rattle.std.specs.List.{fold, list_any, position}
+use Rattle.std.specs.List.{list_any, position}
 use Rattle.pf_base.specs.Ascii as ascii
 use Rattle.pf_base.specs.Braces.{partner}
 use Rattle.pf_base.specs.Options.{◌>>=◌}
