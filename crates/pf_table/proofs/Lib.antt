@@ -1,3 +1,4 @@
+pub mod CountLaws
 pub mod MemoryLemmas
 pub mod PairLemmas
 pub mod PlaceLemmas

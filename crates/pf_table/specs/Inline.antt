@@ -1,6 +1,6 @@
 -- Tables that stand in their specification (DATABASE_README, inline). That an item without braces has no space in it, and that of repeated
 -- keys the first counts, is postgate's own.
-use Rattle.std.specs.Prelude.{ℕ, ◌+◌, ◌++◌, ◌==◌, Bool, nat_lt, List, [], ◌∷◌, Option, None, Some, Result, Ok, Err, codes, length, take, drop, if◌then◌else◌}
+use Rattle.std.specs.Prelude.{◌≡◌, ℕ, ◌+◌, ◌++◌, ◌==◌, Bool, nat_lt, List, [], ◌∷◌, Option, None, Some, Result, Ok, Err, codes, length, take, drop, if◌then◌else◌}
 use Rattle.std.specs.List.{list_any, position}
 use Rattle.pf_base.specs.Ascii as ascii
 use Rattle.pf_base.specs.Braces.{partner}
@@ -12,7 +12,7 @@ use Rattle.pf_base.specs.declared.refused.Cause.TheVariants.{C9}
 use Rattle.pf_base.specs.declared.refused.Refused.{Refused}
 use Rattle.pf_base.specs.declared.words.WordsFault.{WordsFault}
 use Rattle.pf_table.specs.Pairs.{pairs_of}
-use Rattle.pf_table.specs.Tables.{Keyed, kept_key}
+use Rattle.pf_table.specs.Tables.{Keyed, found_in, kept_key}
 use Rattle.pf_table.specs.declared.pairs.Repeats.TheVariants.{First}
 
 -- a text up to its end, the partner of the brace in front of it
@@ -78,3 +78,8 @@ or_refused file line folds text (Some pairs) = Ok (record { folds = folds; pairs
 -- the table of a text
 abbrev pub inline_of : List ℕ → ℕ → Bool → List ℕ → Result Keyed Refused
 inline_of file line folds text = or_refused file line folds text (inline_pairs folds text)
+
+-- each key has the value of its first item
+abbrev pub Counts : Bool → List ℕ → Keyed → Type 0
+Counts folds text table = (items : List (List ℕ)) (pairs : List Pair) (key : List ℕ) → words_of text ≡ Ok items → item_pairs folds items ≡ Some pairs
+    → found_in table.pairs key ≡ found_in pairs key

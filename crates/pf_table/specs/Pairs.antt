@@ -1,5 +1,5 @@
 -- Pairs of which each key comes once. Which of repeated keys counts is postgate's own for texthash; for cdb files it is that of postmap(1).
-use Rattle.std.specs.Prelude.{ℕ, Bool, List, [], ◌∷◌, map, if◌then◌else◌}
+use Rattle.std.specs.Prelude.{ℕ, Bool, List, [], ◌∷◌, map, reverse, if◌then◌else◌}
 use Rattle.std.specs.List.{fold, list_any}
 use Rattle.std.specs.Str.{bytes_eq}
 use Rattle.pf_base.specs.declared.pair.Pair.{Pair}
@@ -28,3 +28,8 @@ with_pair repeats (pair ∷ pairs) other =
 -- pairs in turn
 abbrev pub pairs_of : Repeats → List Pair → List Pair
 pairs_of repeats pairs = fold (with_pair repeats) [] pairs
+
+-- pairs in an order in which the one of a key that counts comes before its others
+abbrev pub counted : Repeats → List Pair → List Pair
+counted First pairs = pairs
+counted Last pairs = reverse pairs

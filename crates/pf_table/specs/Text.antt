@@ -1,5 +1,5 @@
 -- Text tables (DATABASE_README, texthash). The refusals are postgate's own.
-use Rattle.std.specs.Prelude.{ℕ, ◌++◌, Bool, List, [], ◌∷◌, Result, Ok, Err, if◌then◌else◌}
+use Rattle.std.specs.Prelude.{◌≡◌, ℕ, ◌++◌, Bool, List, [], ◌∷◌, Result, Ok, Err, map, if◌then◌else◌}
 use Rattle.std.specs.List.{fold}
 use Rattle.pf_base.specs.Logical.{Grouped, Physical, grouped, physical_lines}
 use Rattle.pf_base.specs.Results.{◌>>=◌}
@@ -9,7 +9,8 @@ use Rattle.pf_base.specs.declared.refused.Cause.{Cause}
 use Rattle.pf_base.specs.declared.refused.Cause.TheVariants.{C1, C11}
 use Rattle.pf_base.specs.declared.refused.Refused.{Refused}
 use Rattle.pf_table.specs.Line.{pair_of, reason_text}
-use Rattle.pf_table.specs.Pairs.{has_key, with_pair}
+use Rattle.pf_table.specs.Pairs.{counted, has_key, with_pair}
+use Rattle.pf_table.specs.Tables.{found_in}
 use Rattle.pf_table.specs.declared.line.Reason.{Reason}
 use Rattle.pf_table.specs.declared.pairs.Repeats.{Repeats}
 use Rattle.pf_table.specs.declared.text.Entries.{Entries}
@@ -79,3 +80,12 @@ unfoldable pub text_read : List ℕ → Bool → Repeats → List ℕ → Result
 text_read file folds repeats text = do
   lines ← lines_in file (grouped (physical_lines text))
   table_with folds (entries_in file folds repeats lines)
+
+-- the lines of a text with their keys and values
+abbrev pub lines_of : List ℕ → Bool → List ℕ → Result (List Entry) Refused
+lines_of file folds text = lines_in file (grouped (physical_lines text)) >>= lines_read file folds
+
+-- each key has the value of its first line, or of its last
+abbrev pub Counts : List ℕ → Bool → Repeats → List ℕ → TextRead → Type 0
+Counts file folds repeats text read = (lines : List Entry) (key : List ℕ) → lines_of file folds text ≡ Ok lines
+    → found_in read.table.pairs key ≡ found_in (counted repeats (map (λ line. line.pair) lines)) key

@@ -157,6 +157,26 @@ impl Model for Inline {
     ghost view = { λ table. record { folds = table.folds; pairs = table.pairs } };
 }
 
+// The table of the text between its braces.
+fn table_of(
+    alloc: Global,
+    file: &[u8],
+    line: u64,
+    text: &[u8],
+    folded: bool,
+) -> Result<Inline, ConfFault>
+    ensures { Unless result ConfFault.NoMemory (λ r. r ≡ as_fault (spec.inline_of file.now line folded text.now)) }
+{
+    match pairs_of(alloc, folded, text) {
+        Err(NoMemory) => Err(ConfFault::NoMemory),
+        Ok(None) => Err(refused(alloc, file, line, text)),
+        Ok(Some(pairs)) => Ok(Inline {
+            folds: folded,
+            pairs,
+        }),
+    }
+}
+
 impl Inline {
     /// The table of the text between the braces of `inline:{..}`: items `key=value` without space, or `{key = value}`, parted
     /// by commas or space. Of a repeated key the first item counts. Where `folded`, letters count as the same in either case.
@@ -169,16 +189,10 @@ impl Inline {
         text: &[u8],
         folded: bool,
     ) -> Result<Inline, ConfFault>
-        ensures { Unless result ConfFault.NoMemory (λ r. r ≡ as_fault (spec.inline_of file.now line folded text.now)) }
+        ensures is { Unless result ConfFault.NoMemory (λ r. r ≡ as_fault (spec.inline_of file.now line folded text.now)) }
+        ensures counts { IfOk result (spec.Counts folded text.now) }
     {
-        match pairs_of(alloc, folded, text) {
-            Err(NoMemory) => Err(ConfFault::NoMemory),
-            Ok(None) => Err(refused(alloc, file, line, text)),
-            Ok(Some(pairs)) => Ok(Inline {
-                folds: folded,
-                pairs,
-            }),
-        }
+        table_of(alloc, file, line, text, folded)
     }
 
     /// The pairs in the order of their keys' first items, the keys as they are compared.

@@ -146,6 +146,33 @@ pub struct TextRead {
     pub repeated: List<Repeated>,
 }
 
+// The table of a text.
+fn read_text(
+    alloc: Global,
+    file: &[u8],
+    text: &[u8],
+    folded: bool,
+    repeats: Repeats,
+) -> Result<TextRead, ConfFault>
+    ensures { Unless result ConfFault.NoMemory (λ r. r ≡ as_fault (spec.text_read file.now folded repeats text.now)) }
+{
+    let lines = match logical_lines(alloc, text) {
+        Ok(lines) => lines,
+        Err(TextFault::Continuation { line }) => {
+            return Err(refused(alloc, file, line, Cause::C1, &[]));
+        }
+        Err(TextFault::NoMemory) => return Err(ConfFault::NoMemory),
+    };
+    let Entries { pairs, repeated } = entries_in(alloc, file, folded, repeats, lines.as_slice())?;
+    Ok(TextRead {
+        table: TextTable {
+            folds: folded,
+            pairs,
+        },
+        repeated,
+    })
+}
+
 impl TextTable {
     /// The table of a text. Its logical lines are each a key, space and a value; a key may begin in double quotes, in which space
     /// belongs to it and a backslash takes the next byte. Where `folded`, letters count as the same in either case. Of a key
@@ -159,29 +186,10 @@ impl TextTable {
         folded: bool,
         repeats: Repeats,
     ) -> Result<TextRead, ConfFault>
-        ensures { Unless result ConfFault.NoMemory (λ r. r ≡ as_fault (spec.text_read file.now folded repeats text.now)) }
+        ensures is { Unless result ConfFault.NoMemory (λ r. r ≡ as_fault (spec.text_read file.now folded repeats text.now)) }
+        ensures counts { IfOk result (spec.Counts file.now folded repeats text.now) }
     {
-        let lines = match logical_lines(alloc, text) {
-            Ok(lines) => lines,
-            Err(TextFault::Continuation { line }) => {
-                return Err(refused(alloc, file, line, Cause::C1, &[]));
-            }
-            Err(TextFault::NoMemory) => return Err(ConfFault::NoMemory),
-        };
-        let Entries { pairs, repeated } = entries_in(
-            alloc,
-            file,
-            folded,
-            repeats,
-            lines.as_slice(),
-        )?;
-        Ok(TextRead {
-            table: TextTable {
-                folds: folded,
-                pairs,
-            },
-            repeated,
-        })
+        read_text(alloc, file, text, folded, repeats)
     }
 
     /// The pairs in the order of their keys' first lines, the keys as they are compared.
