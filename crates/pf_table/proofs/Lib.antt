@@ -1,0 +1,7 @@
+pub mod CountLaws
+pub mod MemoryLemmas
+pub mod PairLemmas
+pub mod PlaceLemmas
+pub mod ResultLaws
+pub mod Rows
+pub mod TextLemmas

@@ -1,0 +1,5 @@
+use Rattle.pf_table.proofs.MemoryLemmas.{can_find_below}
+use Rattle.pf_table.proofs.memory.FixedLookup.has.Goals as goal
+
+pub returns : goal.returns
+returns c = λ all. can_find_below c.args.self.now c.args.ids.now _ c.count.ensures (rw c.are_below.ensures at all)

@@ -1,0 +1,19 @@
+//! Tables that are asked for keys (DATABASE_README): what each kind means, and a search through several.
+#![tactic(auto)]
+
+mod constant;
+mod first;
+mod inline;
+mod line;
+mod memory;
+mod pairs;
+mod table;
+mod text;
+
+pub use constant::{FailTable, StaticTable};
+pub use first::find_first;
+pub use inline::Inline;
+pub use memory::FixedLookup;
+pub use pairs::Repeats;
+pub use table::{Results, Table};
+pub use text::{Repeated, TextRead, TextTable};

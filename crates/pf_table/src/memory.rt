@@ -1,0 +1,128 @@
+//! Tables in memory.
+ghost use Rattle.std.specs.Prelude.{◌≡◌, ◌<◌, ◌==◌, Some, true, nat_lt, length, slice_get, IfOk};
+ghost use Rattle.std.specs.List.{find, list_all, list_any};
+ghost use Rattle.std.specs.Option.{ok_or, option_copied};
+ghost use Rattle.std.specs.Str.{bytes_eq};
+ghost use Rattle.pf_base.specs.Clauses.Memory.{none_made};
+ghost use Rattle.pf_base.specs.Clauses.Unless.{Unless};
+ghost use Rattle.pf_asks.specs.Clauses.Looking.{CanFind};
+ghost use Rattle.pf_table.specs.Tables as spec;
+ghost use Rattle.pf_table.specs.Clauses.Memory as memory;
+
+use pf_asks::{Found, Lookup, TableFault};
+use pf_base::{List, NoMemory, Pair, TableId};
+use std::alloc::Global;
+use std::marker::Model;
+
+// The first pair of a key.
+fn pair_of<'a>(pairs: &'a [Pair], key: &[u8]) -> Option<&'a Pair>
+    ensures { option_copied result ≡ find (λ pair. bytes_eq key.now pair.key) pairs.now }
+{
+    pairs.iter().find(|pair| key == pair.key.as_slice())
+}
+
+// What a table has for a key.
+fn found_in(alloc: Global, pairs: &[Pair], key: &[u8]) -> Result<Found, NoMemory>
+    ensures { IfOk result (λ found. found ≡ spec.found_in pairs.now key.now) }
+{
+    match pair_of(pairs, key) {
+        None => Ok(Found::Absent),
+        Some(pair) => Ok(Found::Value(pair.value.copy(alloc)?)),
+    }
+}
+
+// Whether all these places are below a number of tables.
+fn are_below(ids: &[TableId], count: u64) -> bool
+    ensures { result ≡ list_all (λ id. nat_lt id.0 count) ids.now }
+{
+    ids.iter().all(|id| id.0 < count)
+}
+
+// Whether a number is among these.
+fn contains(numbers: &[u64], number: u64) -> bool
+    ensures { result ≡ list_any (λ n. n == number) numbers.now }
+{
+    numbers.iter().any(|n| *n == number)
+}
+
+/// Tables in memory, under their places from 0. Each is pairs, of which the first of a key counts; keys are not folded.
+#[derive(Debug, Drop)]
+pub struct FixedLookup {
+    tables: List<List<Pair>>,
+    failing: List<u64>,
+    finds: u64,
+    faults: u64,
+}
+
+impl Model for FixedLookup {
+    ghost use Rattle.pf_table.specs.Clauses.Memory.{MemoryTables};
+
+    ghost Value = { MemoryTables };
+
+    ghost view = { λ lookup. record {
+      tables = lookup.tables;
+      calls = record { failing = lookup.failing; made = lookup.finds; faults = lookup.faults };
+    } };
+}
+
+impl FixedLookup {
+    /// These tables. `failing` are the numbers, from 1, of the lookups that fail from outside.
+    pub fn new(tables: List<List<Pair>>, failing: List<u64>) -> FixedLookup
+        ensures { result ≡ record { tables = tables; calls = none_made failing } }
+    {
+        FixedLookup {
+            tables,
+            failing,
+            finds: 0,
+            faults: 0,
+        }
+    }
+
+    fn count(&self) -> u64
+        ensures { result ≡ length self.now.tables }
+    {
+        self.tables.len()
+    }
+
+    /// Whether there are tables of all these places.
+    pub fn has(&self, ids: &[TableId]) -> bool
+        ensures { result ≡ true → CanFind (memory.seen self.now) ids.now }
+    {
+        are_below(ids, self.count())
+    }
+
+    // Counts a lookup, and says whether it fails.
+    fn next(&mut self) -> bool
+        ensures { memory.CountsFind self.old self.new result }
+    {
+        let number = self.finds.saturating_add(1);
+        let fails = contains(self.failing.as_slice(), number);
+        self.finds = number;
+        if fails {
+            self.faults = self.faults.saturating_add(1);
+        }
+        fails
+    }
+
+    // What the table of this place has for a key.
+    fn value(&self, alloc: Global, id: TableId, key: &[u8]) -> Result<Found, TableFault>
+        requires { id.0 < length self.now.tables }
+        ensures { Unless result TableFault.NoMemory (λ r. r ≡ ok_or (memory.value_in (slice_get self.now.tables id.0) key.now) TableFault.Fails) }
+    {
+        match found_in(alloc, self.tables.at(id.0).as_slice(), key) {
+            Ok(found) => Ok(found),
+            Err(NoMemory) => Err(TableFault::NoMemory),
+        }
+    }
+}
+
+impl Lookup for FixedLookup {
+    ghost tables = { memory.seen };
+
+    fn find(&mut self, alloc: Global, id: TableId, key: &[u8]) -> Result<Found, TableFault> {
+        if self.next() {
+            return Err(TableFault::Failed);
+        }
+        self.value(alloc, id, key)
+    }
+}
