@@ -7,7 +7,7 @@ use Rattle.std.specs.Prelude.{nat_lt, slice_index_or, ok_or, slice_get}
 use Rattle.pf_base.specs.Clauses.Unless.{Unless}
 use Rattle.pf_base.specs.declared.table_texts.TableId.{TableId}
 use Rattle.pf_asks.specs.Clauses.Held.{Answered}
-use Rattle.pf_asks.specs.Clauses.Looking.{CanFind, Looked, look_failed, looked_up, value_of}
+use Rattle.pf_asks.specs.Looking.{CanFind, Looked, look_failed, looked_up, value_of}
 use Rattle.pf_asks.specs.declared.lookup.Found.{Found}
 use Rattle.pf_asks.specs.declared.lookup.TableFault.TheVariants.{Fails, Failed, NoMemory}
 use Rattle.pf_table.specs.Clauses.Memory.{CountsFind, MemoryTables, seen, value_in}

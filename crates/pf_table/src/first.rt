@@ -2,7 +2,7 @@
 ghost use Rattle.std.specs.Prelude.{◌≡◌, ◌≤◌, ◌+◌, length};
 ghost use Rattle.pf_asks.specs.Clauses.Causes.{counted_if};
 ghost use Rattle.pf_asks.specs.Clauses.Led.{TriesTables};
-ghost use Rattle.pf_asks.specs.Clauses.Looking.{CanFind, look_failed};
+ghost use Rattle.pf_asks.specs.Looking.{CanFind, look_failed};
 ghost use Rattle.pf_table.specs.First.{first_of};
 
 use pf_asks::{Found, Lookup, TableFault};

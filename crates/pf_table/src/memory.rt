@@ -5,7 +5,7 @@ ghost use Rattle.std.specs.Option.{ok_or, option_copied};
 ghost use Rattle.std.specs.Str.{bytes_eq};
 ghost use Rattle.pf_base.specs.Clauses.Memory.{none_made};
 ghost use Rattle.pf_base.specs.Clauses.Unless.{Unless};
-ghost use Rattle.pf_asks.specs.Clauses.Looking.{CanFind};
+ghost use Rattle.pf_asks.specs.Looking.{CanFind};
 ghost use Rattle.pf_table.specs.Tables as spec;
 ghost use Rattle.pf_table.specs.Clauses.Memory as memory;
 

@@ -3,7 +3,7 @@ use Rattle.std.specs.Prelude.{◌≡◌, ℕ, true, List, Some}
 use Rattle.std.specs.List.{list_any}
 use Rattle.std.specs.Option.{ok_or}
 use Rattle.std.specs.Str.{bytes_eq}
-use Rattle.pf_asks.specs.Clauses.Looking.{Looked}
+use Rattle.pf_asks.specs.Looking.{Looked}
 use Rattle.pf_asks.specs.declared.lookup.Found.TheVariants.{Value}
 use Rattle.pf_asks.specs.declared.lookup.TableFault.TheVariants.{Fails}
 use Rattle.pf_table.specs.Tables.{Meaning}

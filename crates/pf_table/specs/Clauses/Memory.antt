@@ -1,10 +1,10 @@
 -- Tables in memory, as contracts see them: they know which of their lookups fail, and how many there were. They are postgate's own.
 use Rattle.std.specs.Prelude.{◌≡◌, ℕ, Bool, true, false, List, Option, None, Some, length, slice_get}
-use Rattle.pf_base.specs.Clauses.Causes.{counted_by}
+use Rattle.pf_base.specs.Counts.{counted_by}
 use Rattle.pf_base.specs.Clauses.Memory.{Calls, fails_next}
 use Rattle.pf_base.specs.declared.pair.Pair.{Pair}
 use Rattle.pf_asks.specs.Clauses.Causes.{counted_if}
-use Rattle.pf_asks.specs.Clauses.Looking.{Tables, Values}
+use Rattle.pf_asks.specs.Looking.{Tables, Values}
 use Rattle.pf_asks.specs.declared.lookup.Found.{Found}
 use Rattle.pf_table.specs.Tables.{keyed_meaning}
 

@@ -1,7 +1,7 @@
 use Rattle.std.proofs.Common.{◌≡◌, ◌≤◌, ◌+◌, ℕ, drop, List}
 use Rattle.pf_base.specs.declared.table_texts.TableId.{TableId}
 use Rattle.pf_asks.specs.Clauses.Led.{TablesLed}
-use Rattle.pf_asks.specs.Clauses.Looking.{Tables}
+use Rattle.pf_asks.specs.Looking.{Tables}
 use Rattle.pf_table.specs.First.{first_of}
 use Rattle.pf_table.proofs.first.first_in.Given as goal
 
