@@ -105,8 +105,12 @@ def compare(folder, pairs, absent):
     keys.write_bytes(b"".join(key + b"\n" for key, _ in kept) + b"".join(key + b"\n" for key in absent))
     values = b"".join(value + b"\n" for _, value in kept)
     want(lines([PROGRAM, "ask", str(theirs), str(keys)], folder)[0] == values, "keys of their file have other values")
-    for key, value in random.sample(kept, min(3, len(kept))):
-        want(lines(["cdb", "-q", str(ours), os.fsdecode(key)], folder)[0].startswith(value), "a key of our file has another value")
+    for key, _ in random.sample(kept, min(3, len(kept))):
+        every = b"".join(other for name, other in pairs if name == key)
+        want(lines(["cdb", "-q", "--", str(ours), os.fsdecode(key)], folder)[0] == every, "a key of our file has another value")
+    for key in absent[:3]:
+        done = subprocess.run(["cdb", "-q", "--", str(ours), os.fsdecode(key)], stdout=subprocess.DEVNULL, check=False)
+        want(done.returncode == 100, "a key that our file has not is found")
 
 
 def ended(words, shim, fail_at, count):
@@ -141,10 +145,11 @@ def measure(folder, count):
     keys, none = folder / "keys", folder / "none"
     keys.write_bytes(b"".join(key + b"\n" for key, _ in pairs))
     none.write_bytes(b"")
-    checked = lines([PROGRAM, "check", str(theirs)], folder)[1][0]
+    told, (checked, _) = lines([PROGRAM, "check", str(theirs)], folder)
+    want(told == b"", "their file is refused")
     empty = lines([PROGRAM, "ask", str(theirs), str(none)], folder)[1][0]
     said, (asked, _) = lines([PROGRAM, "ask", str(theirs), str(keys)], folder)
-    want(said.count(b"\n") == count, "a key is not found")
+    want(said == b"".join(value + b"\n" for _, value in pairs), "a key has another value")
     print(f"  check, with the file read: {checked:.3f} s; a key asked: {(asked - empty) / count * 1e6:.3f} us")
 
 
