@@ -8,7 +8,7 @@ use Rattle.std.specs.Net.Grammar.{IsColonHex, IsDotted, IsIpText}
 use Rattle.std.specs.Net.Reader.{Read, read_ipv4, read_ipv6, whole_value}
 use Rattle.std.proofs.NetLemmas.Ipv4.{read_ipv4_complete, read_ipv4_sound}
 use Rattle.std.proofs.NetLemmas.Ipv6.{EndsGroups-nil, IsDotted-not_colon_hex, read_ipv6_complete, read_ipv6_sound}
-use Rattle.pf_cidr.specs.Addresses.{IsWritten, address_of, address_with}
+use Rattle.pf_cidr.specs.Addresses.{IsWritten, Reads, address_of, address_with}
 use Rattle.pf_cidr.specs.declared.address.Addr.{Addr}
 use Rattle.pf_cidr.proofs.Cases.{either_option}
 
@@ -77,3 +77,12 @@ address_sound text addr is =
       whole_sound IsDotted text (read_ipv4 text) (λ parts rest more. read_ipv4_sound text parts rest more) octets read,
       sym (same_Some _ addr (rw read at is)),
     ))
+
+pub address_complete : (text : List ℕ) (addr : Addr) → IsWritten text addr → address_of text ≡ Some addr
+address_complete text addr written = read_is text written.0 written.1 ∙ ap Some (sym written.2)
+
+pub address_reads : (text : List ℕ) → Reads text (address_of text)
+address_reads text =
+    either_option (address_of text)
+    (λ none. rw none (λ addr written. none-some addr (sym none ∙ address_complete text addr written)))
+    (λ addr is. rw is (address_sound text addr is, λ other written. same_Some other addr (sym (address_complete text other written) ∙ is)))

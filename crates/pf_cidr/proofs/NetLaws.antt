@@ -1,6 +1,6 @@
 -- What is read of a text is the net that it writes.
-use Rattle.std.proofs.Common.{◌≡◌, ℕ, suc, ◌+◌, ◌-◌, ◌<◌, ◌≤◌, ◌^◌, Bool, true, false, List, [], ◌∷◌, ◌++◌, length, get_or, take, drop, decimal, Option, Some, None, Result, Ok, Err, refl, sym, ap, ◌∙◌, subst, inl, inr, arith, length-append, le-leb, leb-true, eqb}
-use Rattle.std.specs.Prelude.{◌==◌, ◌&&◌, ◌||◌, nat_lt, nat_le, not, if◌then◌else◌, slice_range}
+use Rattle.std.proofs.Common.{◌≡◌, ℕ, suc, ◌+◌, ◌-◌, ◌<◌, ◌≤◌, ◌^◌, true, false, List, [], ◌∷◌, ◌++◌, length, get_or, take, drop, decimal, Some, None, refl, sym, ap, ◌∙◌, subst, inl, inr, arith, length-append, le-leb, leb-true, eqb}
+use Rattle.std.specs.Prelude.{◌==◌, ◌&&◌, ◌||◌, nat_lt, nat_le, not, slice_range}
 use Rattle.std.proofs.Math.Seq.{take-append_seam}
 use Rattle.std.proofs.lemmas.Bool.{and_from, and_parts, cases_lt, eq-eqb, eqb-false, eqb-true, lt-ltb, ne_eqb, or_parts}
 use Rattle.std.proofs.lemmas.Fmt.{decimal-digits_value, decimal_digit, decimal_is_IsNumeral, first_decimal}
@@ -12,18 +12,15 @@ use Rattle.std.specs.Char.{is_ascii_digit}
 use Rattle.std.specs.List.{after_first, before_first, list_all, list_any, position_or_len}
 use Rattle.std.specs.Net.Reader.{read_ipv4, read_ipv6, read_number, read_octet, read_segment, read_segments}
 use Rattle.std.specs.Str.Parse.{digits_value}
-use Rattle.pf_cidr.specs.Addresses.{IsWritten, address_of}
+use Rattle.pf_cidr.specs.Addresses.{address_of}
 use Rattle.pf_cidr.specs.Nets.{IsHost, IsNet, Network, Reads, alone, bracketed, has_host_bits, host_of, if_v6, is_in_brackets, is_slash, net_of, part, plain, prefixed, whole, width, written_net}
 use Rattle.pf_cidr.specs.Numbers.{decimal_within, is_decimal}
 use Rattle.pf_cidr.specs.declared.address.Addr.{Addr}
 use Rattle.pf_cidr.specs.declared.address.Addr.TheVariants.{V4, V6}
-use Rattle.pf_cidr.proofs.AddressLaws.{address_sound, read_is}
+use Rattle.pf_cidr.proofs.AddressLaws.{address_complete, address_sound}
 use Rattle.pf_cidr.proofs.Cases.{either_option, either_way}
 use Rattle.pf_cidr.proofs.NumberLemmas.{not_empty, own}
-use Rattle.pf_cidr.proofs.SlashLaws.{Slashless, host_slashless}
-
-address_complete : (text : List ℕ) (addr : Addr) → IsWritten text addr → address_of text ≡ Some addr
-address_complete text addr written = read_is text written.0 written.1 ∙ ap Some (sym written.2)
+use Rattle.pf_cidr.proofs.SlashLaws.{host_slashless}
 
 -- no address begins with a bracket
 no_bracket : (rest : List ℕ) → address_of (91 ∷ rest) ≡ None

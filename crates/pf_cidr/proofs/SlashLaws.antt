@@ -9,7 +9,6 @@ use Rattle.std.specs.Str.Parse.{AllDigits}
 use Rattle.std.specs.declared.net.ip_addr.IpAddr.{IpAddr}
 use Rattle.std.specs.declared.net.ip_addr.IpAddr.TheVariants as family
 use Rattle.std.specs.Net.Grammar.{IsColonHex, IsDotted, IsGroupsAfter, IsIpText}
-use Rattle.pf_cidr.specs.Addresses.{IsWritten}
 use Rattle.pf_cidr.specs.Nets.{IsHost, bracketed, is_slash, plain}
 use Rattle.pf_cidr.specs.declared.address.Addr.{Addr}
 

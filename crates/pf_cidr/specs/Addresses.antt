@@ -1,6 +1,6 @@
 -- Addresses of hosts, and how they are written and printed (RFC 4291, 2.2; RFC 5952, 4). That an IPv4 number has no leading zeros, and
 -- that an IPv6 address is printed as groups alone, are postgate's own.
-use Rattle.std.specs.Prelude.{◌≡◌, ℕ, List, Option, option_map}
+use Rattle.std.specs.Prelude.{◌≡◌, ℕ, List, Option, Some, None, option_map}
 use Rattle.std.specs.Int.{w128, w32, to_be_bytes}
 use Rattle.std.specs.Option.{option_or}
 use Rattle.std.specs.declared.net.ip_addr.IpAddr.{IpAddr}
@@ -20,6 +20,11 @@ address_with (family.V6 a) = V6 (ipv6_bits a)
 -- the text writes the address, by the grammar of std
 abbrev pub IsWritten : List ℕ → Addr → Type 0
 IsWritten text addr = (ip : IpAddr) × IsIpText text ip × (addr ≡ address_with ip)
+
+-- what reading a text gives: the one address that it writes, or nothing where it writes none
+abbrev pub Reads : List ℕ → Option Addr → Type 0
+Reads text (Some addr) = IsWritten text addr × ((other : Addr) → IsWritten text other → other ≡ addr)
+Reads text None = (addr : Addr) → ¬ (IsWritten text addr)
 
 -- the address of four octets
 abbrev pub octets_address : List ℕ → Addr
