@@ -34,7 +34,7 @@ octets_address octets = address_with (family.V4 (record { octets = octets }))
 abbrev pub groups_address : List ℕ → Addr
 groups_address groups = address_with (family.V6 (record { segments = groups }))
 
--- the address that a text writes, as it is read from the left; no text writes two
+-- the address that a text writes, as a value: read from the left
 unfoldable pub address_of : List ℕ → Option Addr
 address_of text =
     option_or (option_map octets_address (whole_value (read_ipv4 text))) (option_map groups_address (whole_value (read_ipv6 text)))

@@ -46,6 +46,25 @@ net_has net addr = same_family net.addr addr && first_bits net.prefix addr == fi
 abbrev pub has_host_bits : Network → Bool
 has_host_bits net = not (bits_of net.addr % 2 ^ (width net.addr - net.prefix) == 0)
 
+-- the address of a net as it is written: one of IPv6 may stand in brackets
+pub data IsHost (text : List ℕ) (addr : Addr) : Type 0 where
+  plain : IsWritten text addr → IsHost text addr
+  bracketed : (inside : List ℕ) (bits : ℕ) → IsWritten inside addr → addr ≡ V6 bits →
+      text ≡ ascii.left_bracket ∷ inside ++ (ascii.right_bracket ∷ []) → IsHost text addr
+
+-- a net as it is written: an address alone, or an address, a slash and in decimal how many of its first bits count
+pub data IsNet (text : List ℕ) (net : Network) : Type 0 where
+  whole : IsHost text net.addr → net.prefix ≡ width net.addr → IsNet text net
+  part : (host : List ℕ) → IsHost host net.addr → text ≡ host ++ (ascii.slash ∷ decimal net.prefix) → net.prefix ≤ width net.addr → IsNet text net
+
+-- what reading a text gives: the one net that it writes, or why there is none
+abbrev pub Reads : List ℕ → Result Network NetFault → Type 0
+Reads text (Ok net) = IsNet text net × (has_host_bits net ≡ false) × ((other : Network) → IsNet text other → other ≡ net)
+Reads text (Err HostBits) = (net : Network) × IsNet text net × (has_host_bits net ≡ true)
+Reads text (Err Syntax) = (net : Network) → ¬ (IsNet text net)
+
+-- The same as values, read from the left.
+
 -- an address that is IPv6
 abbrev pub if_v6 : Addr → Option Addr
 if_v6 (V4 bits) = None
@@ -83,23 +102,6 @@ abbrev pub unless_host_bits : Option Network → Result Network NetFault
 unless_host_bits None = Err Syntax
 unless_host_bits (Some net) = if has_host_bits net then Err HostBits else Ok net
 
--- the net that a text writes, or why it writes none, as it is read from the left; no text writes two
+-- the net that a text writes, or why it writes none
 unfoldable pub net_of : List ℕ → Result Network NetFault
 net_of text = unless_host_bits (written_net text)
-
--- the address of a net as it is written: one of IPv6 may stand in brackets
-pub data IsHost (text : List ℕ) (addr : Addr) : Type 0 where
-  plain : IsWritten text addr → IsHost text addr
-  bracketed : (inside : List ℕ) (bits : ℕ) → IsWritten inside addr → addr ≡ V6 bits →
-      text ≡ ascii.left_bracket ∷ inside ++ (ascii.right_bracket ∷ []) → IsHost text addr
-
--- a net as it is written: an address alone, or an address, a slash and in decimal how many of its first bits count
-pub data IsNet (text : List ℕ) (net : Network) : Type 0 where
-  whole : IsHost text net.addr → net.prefix ≡ width net.addr → IsNet text net
-  part : (host : List ℕ) → IsHost host net.addr → text ≡ host ++ (ascii.slash ∷ decimal net.prefix) → net.prefix ≤ width net.addr → IsNet text net
-
--- what reading a text gives: the one net that it writes, or why there is none
-abbrev pub Reads : List ℕ → Result Network NetFault → Type 0
-Reads text (Ok net) = IsNet text net × (has_host_bits net ≡ false) × ((other : Network) → IsNet text other → other ≡ net)
-Reads text (Err HostBits) = (net : Network) × IsNet text net × (has_host_bits net ≡ true)
-Reads text (Err Syntax) = (net : Network) → ¬ (IsNet text net)
