@@ -3,7 +3,9 @@ pub mod Cases
 pub mod CountLaws
 pub mod FaultLemmas
 pub mod FindLaws
+pub mod NetLaws
 pub mod NumberLemmas
 pub mod PrintedLaws
 pub mod Rows
+pub mod SlashLaws
 pub mod TakingLaws

@@ -8,7 +8,7 @@ use Rattle.std.specs.Str.Parse.{ParsesUnsigned, digits_value}
 use Rattle.std.proofs.lemmas.Str.Parse.{IsNumeralModel, numerals_by_value, parse_digits}
 use Rattle.pf_cidr.specs.Numbers.{at_most, decimal_within, is_decimal}
 
-own : IsNumeralModel (λ digits. list_all is_ascii_digit digits ≡ true) (digits_value 10)
+pub own : IsNumeralModel (λ digits. list_all is_ascii_digit digits ≡ true) (digits_value 10)
 own = numerals_by_value _ (search rules)
 
 has_digits : (text : List ℕ) → is_decimal text ≡ true → list_all is_ascii_digit text ≡ true
@@ -36,7 +36,7 @@ decimal_read most text number is read =
 too_great : (most number : ℕ) → most < 2 ^ 64 → (number < 2 ^ 64 → ⊥) → None ≡ at_most most number
 too_great most number fits over = grind arith
 
-not_empty : (text : List ℕ) → is_decimal text ≡ true → 0 < length text
+pub not_empty : (text : List ℕ) → is_decimal text ≡ true → 0 < length text
 not_empty [] is = cc
 not_empty (b ∷ text) is = omega arith
 

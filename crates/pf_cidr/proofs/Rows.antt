@@ -5,7 +5,7 @@ use Rattle.std.specs.Net.Addr.{ipv4_bits, ipv6_bits}
 use Rattle.std.specs.Net.Reader.{read_ipv4, read_ipv6, read_number, read_octet, read_segment, read_segments}
 use Rattle.std.specs.Net.Text.{hex, hex_groups_text}
 use Rattle.pf_cidr.specs.Addresses.{address_of, printed}
-use Rattle.pf_cidr.specs.Nets.{Network, host_of, net_has, net_of}
+use Rattle.pf_cidr.specs.Nets.{Network, host_of, net_has, net_of, written_net}
 use Rattle.pf_cidr.specs.Tables.{Line, entry_of, first_rule, first_unclosed, reason_text, refused, table_of}
 use Rattle.pf_cidr.specs.declared.address.Addr.{Addr}
 use Rattle.pf_cidr.specs.declared.address.Addr.TheVariants.{V4, V6}
@@ -121,7 +121,7 @@ nets =
     ∷ []
 
 nets_are_read : map net_of net_texts ≡ nets
-unfolding address_of host_of ipv4_bits ipv6_bits net_of read_ipv4 read_ipv6 read_number read_octet read_segment read_segments
+unfolding address_of host_of ipv4_bits ipv6_bits net_of written_net read_ipv4 read_ipv6 read_number read_octet read_segment read_segments
 nets_are_read = refl
 
 -- the net 10.0.0.0/8 and addresses at its ends, and one that says the same in IPv6
@@ -175,7 +175,7 @@ entries =
     ∷ []
 
 lines_are_read : map entry_of lines ≡ entries
-unfolding address_of entry_of host_of ipv4_bits ipv6_bits net_of read_ipv4 read_ipv6 read_number read_octet read_segment read_segments
+unfolding address_of entry_of host_of ipv4_bits ipv6_bits net_of written_net read_ipv4 read_ipv6 read_number read_octet read_segment read_segments
 lines_are_read = refl
 
 -- a table, and the first of its rules that applies to an address
@@ -203,7 +203,7 @@ unclosed_conditions : map first_unclosed
 unclosed_conditions = refl
 
 first_line_refused : table_of (codes "n") (codes "# nets\n10.0.0.1/8 OK\nendif\n") ≡ Err (refused (codes "n") 2 C11 (codes "host bits"))
-unfolding address_of entry_of host_of ipv4_bits ipv6_bits net_of read_ipv4 read_ipv6 read_number read_octet read_segment read_segments reason_text table_of
+unfolding address_of entry_of host_of ipv4_bits ipv6_bits net_of written_net read_ipv4 read_ipv6 read_number read_octet read_segment read_segments reason_text table_of
 first_line_refused = refl
 
 nothing_to_close : table_of (codes "n") (codes "endif\n") ≡ Err (refused (codes "n") 1 C11 (codes "endif without if"))
@@ -211,5 +211,5 @@ unfolding entry_of reason_text table_of
 nothing_to_close = refl
 
 never_closed : table_of (codes "n") (codes "if ::/0\n10.0.0.0/8 OK\n") ≡ Err (refused (codes "n") 1 C11 (codes "if without endif"))
-unfolding address_of entry_of host_of ipv4_bits ipv6_bits net_of read_ipv4 read_ipv6 read_number read_octet read_segment read_segments reason_text table_of
+unfolding address_of entry_of host_of ipv4_bits ipv6_bits net_of written_net read_ipv4 read_ipv6 read_number read_octet read_segment read_segments reason_text table_of
 never_closed = refl

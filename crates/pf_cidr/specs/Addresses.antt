@@ -1,6 +1,6 @@
 -- Addresses of hosts, and how they are written and printed (RFC 4291, 2.2; RFC 5952, 4). That an IPv4 number has no leading zeros, and
 -- that an IPv6 address is printed as groups alone, are postgate's own.
-use Rattle.std.specs.Prelude.{◌≡◌, ℕ, List, Option, option_map}
+use Rattle.std.specs.Prelude.{◌≡◌, ℕ, List, Option, Some, None, option_map}
 use Rattle.std.specs.Int.{w128, w32, to_be_bytes}
 use Rattle.std.specs.Option.{option_or}
 use Rattle.std.specs.declared.net.ip_addr.IpAddr.{IpAddr}
@@ -21,6 +21,11 @@ address_with (family.V6 a) = V6 (ipv6_bits a)
 abbrev pub IsWritten : List ℕ → Addr → Type 0
 IsWritten text addr = (ip : IpAddr) × IsIpText text ip × (addr ≡ address_with ip)
 
+-- what reading a text gives: the one address that it writes, or nothing where it writes none
+abbrev pub Reads : List ℕ → Option Addr → Type 0
+Reads text (Some addr) = IsWritten text addr × ((other : Addr) → IsWritten text other → other ≡ addr)
+Reads text None = (addr : Addr) → ¬ (IsWritten text addr)
+
 -- the address of four octets
 abbrev pub octets_address : List ℕ → Addr
 octets_address octets = address_with (family.V4 (record { octets = octets }))
@@ -29,7 +34,7 @@ octets_address octets = address_with (family.V4 (record { octets = octets }))
 abbrev pub groups_address : List ℕ → Addr
 groups_address groups = address_with (family.V6 (record { segments = groups }))
 
--- the address that a text writes, as it is read from the left; no text writes two
+-- the address that a text writes, as a value: read from the left
 unfoldable pub address_of : List ℕ → Option Addr
 address_of text =
     option_or (option_map octets_address (whole_value (read_ipv4 text))) (option_map groups_address (whole_value (read_ipv6 text)))

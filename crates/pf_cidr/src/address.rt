@@ -1,5 +1,5 @@
 //! Addresses of hosts.
-ghost use Rattle.std.specs.Prelude.{◌≡◌, IfNone, IfOk, IfSome};
+ghost use Rattle.std.specs.Prelude.{◌≡◌, IfOk};
 ghost use Rattle.pf_cidr.specs.Addresses as addresses;
 
 use pf_base::{Bytes, NoMemory};
@@ -49,8 +49,7 @@ impl Addr {
     /// written as an IPv4 address (RFC 4291, 2.2). None where it writes none.
     pub fn read(text: &[u8]) -> Option<Addr>
         ensures is { result ≡ addresses.address_of text.now }
-        ensures written { IfSome result (addresses.IsWritten text.now) }
-        ensures none { IfNone result ((addr : Addr) → ¬ (addresses.IsWritten text.now addr)) }
+        ensures written { addresses.Reads text.now result }
     {
         match IpAddr::parse_ascii(text) {
             Ok(ip) => Some(Addr::from(ip)),

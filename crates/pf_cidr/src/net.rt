@@ -2,7 +2,6 @@
 ghost use Rattle.std.specs.Prelude.{◌≡◌, ◌≤◌, ◌/◌, ◌%◌, ◌^◌, ◌==◌, not, IfSome};
 ghost use Rattle.std.specs.List.{list_any};
 ghost use Rattle.pf_cidr.specs.Nets as nets;
-ghost use Rattle.pf_cidr.specs.Numbers.{decimal_within as decimal};
 
 use crate::address::Addr;
 use crate::numbers::decimal_within;
@@ -72,17 +71,6 @@ fn has_last(bits: u128, count: u8) -> bool
     }
 }
 
-// Whether a bit of an address behind a prefix is set.
-fn has_host_bits(addr: Addr, prefix: u8) -> bool
-    requires { prefix ≤ nets.width addr }
-    ensures { result ≡ nets.has_host_bits addr prefix }
-{
-    match addr {
-        Addr::V4(bits) => has_last(u128::from(bits), V4_BITS - prefix),
-        Addr::V6(bits) => has_last(bits, V6_BITS - prefix),
-    }
-}
-
 fn is_in_brackets(text: &[u8]) -> bool
     ensures { result ≡ nets.is_in_brackets text.now }
 {
@@ -111,13 +99,6 @@ fn host_of(text: &[u8]) -> Option<Addr>
     if_v6(addr)
 }
 
-fn prefix_of(text: &[u8]) -> Option<u8>
-    ensures { result ≡ decimal 128 text.now }
-{
-    let prefix = decimal_within(text, u64::from(V6_BITS))?;
-    Some(prefix as u8)
-}
-
 fn has_slash(text: &[u8]) -> bool
     ensures { result ≡ list_any nets.is_slash text.now }
 {
@@ -125,42 +106,48 @@ fn has_slash(text: &[u8]) -> bool
 }
 
 impl Net {
-    // The net of an address and a prefix.
-    fn with(addr: Addr, prefix: u8) -> Result<Net, NetFault>
-        ensures { result ≡ nets.net_with addr prefix }
-    {
-        if prefix > width(addr) {
-            return Err(NetFault::Syntax);
-        }
-        if has_host_bits(addr, prefix) {
-            return Err(NetFault::HostBits);
-        }
-        Ok(Net { addr, prefix })
-    }
-
-    // The net of one address, written without a prefix.
-    fn alone(text: &[u8]) -> Result<Net, NetFault>
+    // An address alone, all of whose bits count.
+    fn alone(text: &[u8]) -> Option<Net>
         ensures { result ≡ nets.alone text.now }
     {
-        match host_of(text) {
-            None => Err(NetFault::Syntax),
-            Some(addr) => Ok(Net {
-                addr,
-                prefix: width(addr),
-            }),
+        let addr = host_of(text)?;
+        Some(Net {
+            addr,
+            prefix: width(addr),
+        })
+    }
+
+    // An address, a slash and how many of its first bits count.
+    fn prefixed(text: &[u8]) -> Option<Net>
+        ensures { result ≡ nets.prefixed text.now }
+    {
+        let addr = host_of(before_byte(text, b'/'))?;
+        let prefix = decimal_within(behind_byte(text, b'/'), u64::from(width(addr)))?;
+        Some(Net {
+            addr,
+            prefix: prefix as u8,
+        })
+    }
+
+    // The net that a text writes, whichever bits of its address are set.
+    #[tactic(auto, unfolding(crate::specs::Nets::written_net))]
+    fn written(text: &[u8]) -> Option<Net>
+        ensures { result ≡ nets.written_net text.now }
+    {
+        if has_slash(text) {
+            Net::prefixed(text)
+        } else {
+            Net::alone(text)
         }
     }
 
-    // The net of an address, a slash and a prefix.
-    fn prefixed(text: &[u8]) -> Result<Net, NetFault>
-        ensures { result ≡ nets.prefixed text.now }
+    // Whether a bit of the address behind the prefix is set.
+    fn has_host_bits(&self) -> bool
+        ensures { result ≡ nets.has_host_bits self.now }
     {
-        let Some(addr) = host_of(before_byte(text, b'/')) else {
-            return Err(NetFault::Syntax);
-        };
-        match prefix_of(behind_byte(text, b'/')) {
-            None => Err(NetFault::Syntax),
-            Some(prefix) => Net::with(addr, prefix),
+        match self.addr {
+            Addr::V4(bits) => has_last(u128::from(bits), V4_BITS - self.prefix),
+            Addr::V6(bits) => has_last(bits, V6_BITS - self.prefix),
         }
     }
 
@@ -169,12 +156,18 @@ impl Net {
     /// is such a net but for a bit behind its prefix that is set, `Syntax` where it is none.
     #[tactic(auto, unfolding(crate::specs::Nets::net_of))]
     pub fn read(text: &[u8]) -> Result<Net, NetFault>
-        ensures { result ≡ nets.net_of text.now }
+        ensures is { result ≡ nets.net_of text.now }
+        ensures written { nets.Reads text.now result }
     {
-        if has_slash(text) {
-            Net::prefixed(text)
-        } else {
-            Net::alone(text)
+        match Net::written(text) {
+            None => Err(NetFault::Syntax),
+            Some(net) => {
+                if net.has_host_bits() {
+                    Err(NetFault::HostBits)
+                } else {
+                    Ok(net)
+                }
+            }
         }
     }
 

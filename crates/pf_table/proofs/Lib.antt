@@ -1,4 +1,5 @@
 pub mod CountLaws
+pub mod FirstLaws
 pub mod MemoryLemmas
 pub mod PairLemmas
 pub mod PlaceLemmas

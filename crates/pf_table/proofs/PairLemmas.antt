@@ -6,7 +6,8 @@ use Rattle.std.specs.Map.{lookup}
 use Rattle.std.specs.Option.{option_map}
 use Rattle.std.specs.Str.{bytes_eq}
 use Rattle.pf_base.specs.declared.pair.Pair.{Pair}
-use Rattle.pf_table.specs.Pairs.{counting, entries_as_pairs, has_key, with_pair}
+use Rattle.pf_table.specs.Clauses.Keeping.{entries_as_pairs}
+use Rattle.pf_table.specs.Pairs.{counting, has_key, with_pair}
 use Rattle.pf_table.specs.Tables.{found_as, found_in}
 use Rattle.pf_table.specs.declared.pairs.Repeats.TheVariants.{First, Last}
 

@@ -1,4 +1,6 @@
 -- Words of contracts, between the code and the definitions.
 pub mod Answers
 pub mod Faults
+pub mod Keeping
 pub mod Memory
+pub mod Noting

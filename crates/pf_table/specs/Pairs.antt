@@ -1,14 +1,10 @@
 -- Pairs of which each key comes once. Which of repeated keys counts is postgate's own for texthash; for cdb files it is that of postmap(1).
-use Rattle.std.specs.Prelude.{ℕ, Bool, List, [], ◌∷◌, map, reverse, if◌then◌else◌}
+use Rattle.std.specs.Prelude.{ℕ, Bool, List, [], ◌∷◌, reverse, if◌then◌else◌}
 use Rattle.std.specs.List.{fold, list_any}
 use Rattle.std.specs.Str.{bytes_eq}
 use Rattle.pf_base.specs.declared.pair.Pair.{Pair}
 use Rattle.pf_table.specs.declared.pairs.Repeats.{Repeats}
 use Rattle.pf_table.specs.declared.pairs.Repeats.TheVariants.{First, Last}
-
--- entries of a map
-abbrev pub entries_as_pairs : List (List ℕ × List ℕ) → List Pair
-entries_as_pairs entries = map (λ entry. record { key = entry.0; value = entry.1 }) entries
 
 -- a key is there
 abbrev pub has_key : List Pair → List ℕ → Bool

@@ -22,9 +22,6 @@ use Rattle.pf_table.specs.declared.text.TextRead.{TextRead}
 abbrev pub repeated_in : List Pair → Entry → List Repeated
 repeated_in pairs entry = if has_key pairs entry.pair.key then record { line = entry.line; key = entry.pair.key } ∷ [] else []
 
-abbrev pub with_note : Entries → Entry → Entries
-with_note entries entry = record entries { repeated = entries.repeated ++ repeated_in entries.pairs entry }
-
 -- the pairs of lines and the repeated ones among them, with one line more
 abbrev pub with_entry : Repeats → Entries → Entry → Entries
 with_entry repeats entries entry = record {

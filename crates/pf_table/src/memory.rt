@@ -86,7 +86,8 @@ impl FixedLookup {
 
     /// Whether there are tables of all these places.
     pub fn has(&self, ids: &[TableId]) -> bool
-        ensures { result ≡ true → CanFind (memory.seen self.now) ids.now }
+        ensures all { result ≡ list_all (λ id. nat_lt id.0 (length self.now.tables)) ids.now }
+        ensures can_find { result ≡ true → CanFind (memory.seen self.now) ids.now }
     {
         are_below(ids, self.count())
     }

@@ -12,7 +12,7 @@ use pf_base::{Bytes, List, NoMemory, Pair, fold};
 use std::alloc::Global;
 use std::marker::Model;
 
-/// Which pair of a key counts that comes more than once. The place is that of the first one.
+/// Which pair counts of a key that comes more than once. It stands in the place of the first one.
 #[derive(Clone, Copy, Debug, PartialEq, Eq)]
 pub enum Repeats {
     First,
@@ -30,6 +30,7 @@ pub(crate) fn kept_key(alloc: Global, folds: bool, key: &[u8]) -> Result<Bytes, 
     }
 }
 
+/// Pairs in the order in which their keys came first.
 #[derive(Drop)]
 pub(crate) struct Pairs {
     values: IndexMap<Bytes, Bytes>,
@@ -38,7 +39,7 @@ pub(crate) struct Pairs {
 impl Model for Pairs {
     ghost use Rattle.std.specs.Prelude.{List as Seq};
     ghost use Rattle.pf_base.specs.declared.pair.Pair.{Pair};
-    ghost use Rattle.pf_table.specs.Pairs.{entries_as_pairs};
+    ghost use Rattle.pf_table.specs.Clauses.Keeping.{entries_as_pairs};
 
     ghost Value = { Seq Pair };
 

@@ -2,6 +2,7 @@
 ghost use Rattle.std.specs.Prelude.{◌≡◌, ◌≢◌, IfOk, OnOk};
 ghost use Rattle.pf_base.specs.Clauses.Unless.{Unless};
 ghost use Rattle.pf_table.specs.Clauses.Faults.{as_fault};
+ghost use Rattle.pf_table.specs.Clauses.Noting.{with_note};
 ghost use Rattle.pf_table.specs.Line.{reason_text};
 ghost use Rattle.pf_table.specs.Tables.{keyed_meaning};
 ghost use Rattle.pf_table.specs.Text as spec;
@@ -41,7 +42,7 @@ pub(crate) struct Entries {
 impl Entries {
     // Notes a line whose key is there.
     fn note(&mut self, alloc: Global, entry: &Entry) -> Result<(), NoMemory>
-        ensures { OnOk result (self.new ≡ spec.with_note self.old entry.now) }
+        ensures { OnOk result (self.new ≡ with_note self.old entry.now) }
     {
         if self.pairs.has(&entry.pair.key) {
             self.repeated.push(Repeated {
