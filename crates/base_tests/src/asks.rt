@@ -1,0 +1,108 @@
+//! What a resolver and a service in memory answer.
+use pf_asks::{
+    Answer, AskFault, Kind, LinkStep, Links, MemLinks, MemResolver, Outcome, Resolver, Row,
+};
+use pf_base::{Bytes, Failed, List, NoMemory, OuterFault};
+use std::alloc::Global;
+
+// A resolver that knows one address. The question of this number, from 1, fails.
+fn resolver(alloc: Global, failing: u64) -> Result<MemResolver, NoMemory> {
+    let mut values = List::new(alloc);
+    values.push(Bytes::from_slice(alloc, b"192.0.2.1")?)?;
+    let mut rows = List::new(alloc);
+    rows.push(Row {
+        kind: Kind::A,
+        name: Bytes::from_slice(alloc, b"mail.test")?,
+        answer: Answer::Found(values),
+    })?;
+    let mut numbers = List::new(alloc);
+    numbers.push(failing)?;
+    match MemResolver::new(rows, numbers) {
+        Some(resolver) => Ok(resolver),
+        None => Err(NoMemory),
+    }
+}
+
+fn add_values(said: &mut Bytes, values: &[Bytes]) -> Result<(), NoMemory> {
+    for value in values {
+        said.extend_all(&[value.as_slice(), b"|"])?;
+    }
+    Ok(())
+}
+
+// Adds what a resolver answers.
+fn add_answer(said: &mut Bytes, answer: Result<Answer, AskFault>) -> Result<(), NoMemory> {
+    match answer {
+        Ok(Answer::Found(values)) => add_values(said, values.as_slice()),
+        Ok(Answer::Missing) => said.extend(b"missing|"),
+        Ok(Answer::Again) => said.extend(b"again|"),
+        Err(AskFault::Failed) => said.extend(b"failed|"),
+        Err(AskFault::NoMemory) => Err(NoMemory),
+    }
+}
+
+/// What a resolver of one address answers for the mail exchangers and then the addresses of a name.
+pub fn say_resolver(alloc: Global, failing: &str, name: &[u8]) -> Result<Bytes, NoMemory> {
+    let mut resolver = resolver(alloc, failing.parse::<u64>().unwrap_or(0))?;
+    let mut said = Bytes::new(alloc);
+    let exchangers = resolver.ask(alloc, name, Kind::Mx);
+    add_answer(&mut said, exchangers)?;
+    let addresses = resolver.ask(alloc, name, Kind::A);
+    add_answer(&mut said, addresses)?;
+    Ok(said)
+}
+
+fn step_named(step: &str) -> LinkStep {
+    match step {
+        "connect" => LinkStep::Connect,
+        "send" => LinkStep::Send,
+        _ => LinkStep::Receive,
+    }
+}
+
+// A service whose first try is down at this step, and whose second one replies so.
+fn service(alloc: Global, step: LinkStep, reply: &[u8]) -> Result<MemLinks, NoMemory> {
+    let mut outcomes = List::new(alloc);
+    outcomes.push(Outcome::Down(step))?;
+    outcomes.push(Outcome::Reply(Bytes::from_slice(alloc, reply)?))?;
+    Ok(MemLinks::new(alloc, outcomes))
+}
+
+// Adds the reply of the open try.
+fn add_reply(said: &mut Bytes, links: &mut MemLinks) -> Result<(), NoMemory> {
+    let mut buf = [0; 4];
+    for _ in 0..u64::MAX {
+        match links.receive(&mut buf) {
+            Err(Failed) => return said.extend(b"down at receive"),
+            Ok(0) => return Ok(()),
+            Ok(count) => said.extend(&buf[..count])?,
+        }
+    }
+    Ok(())
+}
+
+// Adds where a try is down, or its reply.
+fn add_try(said: &mut Bytes, links: &mut MemLinks) -> Result<(), NoMemory> {
+    match links.connect(b"policy") {
+        Ok(()) => {}
+        Err(OuterFault::Failed) => return said.extend(b"down at connect"),
+        Err(OuterFault::NoMemory) => return Err(NoMemory),
+    }
+    match links.send(b"request\n\n") {
+        Ok(()) => add_reply(said, links),
+        Err(OuterFault::Failed) => said.extend(b"down at send"),
+        Err(OuterFault::NoMemory) => Err(NoMemory),
+    }
+}
+
+/// What two tries of a service come to, of which the first is down at a step and the second replies so.
+pub fn say_links(alloc: Global, step: &str, reply: &[u8]) -> Result<Bytes, NoMemory> {
+    let mut links = service(alloc, step_named(step), reply)?;
+    let mut said = Bytes::new(alloc);
+    add_try(&mut said, &mut links)?;
+    links.hang_up();
+    said.push(b'|')?;
+    add_try(&mut said, &mut links)?;
+    links.hang_up();
+    Ok(said)
+}

@@ -1,2 +1,0 @@
--- Words of contracts, between the code and the definitions.
-pub mod Trying
