@@ -41,15 +41,18 @@ fn add_answer(said: &mut Bytes, answer: Result<Answer, AskFault>) -> Result<(), 
     }
 }
 
-/// What a resolver of one address answers for the mail exchangers and then the addresses of a name.
-pub fn say_resolver(alloc: Global, failing: &str, name: &[u8]) -> Result<Bytes, NoMemory> {
-    let mut resolver = resolver(alloc, failing.parse::<u64>().unwrap_or(0))?;
-    let mut said = Bytes::new(alloc);
+/// Adds what a resolver of one address answers for the mail exchangers and then the addresses of a name.
+pub fn add_resolver(
+    alloc: Global,
+    said: &mut Bytes,
+    failing: u64,
+    name: &[u8],
+) -> Result<(), NoMemory> {
+    let mut resolver = resolver(alloc, failing)?;
     let exchangers = resolver.ask(alloc, name, Kind::Mx);
-    add_answer(&mut said, exchangers)?;
+    add_answer(said, exchangers)?;
     let addresses = resolver.ask(alloc, name, Kind::A);
-    add_answer(&mut said, addresses)?;
-    Ok(said)
+    add_answer(said, addresses)
 }
 
 fn step_named(step: &str) -> LinkStep {
@@ -95,14 +98,18 @@ fn add_try(said: &mut Bytes, links: &mut MemLinks) -> Result<(), NoMemory> {
     }
 }
 
-/// What two tries of a service come to, of which the first is down at a step and the second replies so.
-pub fn say_links(alloc: Global, step: &str, reply: &[u8]) -> Result<Bytes, NoMemory> {
+/// Adds what two tries of a service come to, of which the first is down at a step and the second replies so.
+pub fn add_links(
+    alloc: Global,
+    said: &mut Bytes,
+    step: &str,
+    reply: &[u8],
+) -> Result<(), NoMemory> {
     let mut links = service(alloc, step_named(step), reply)?;
-    let mut said = Bytes::new(alloc);
-    add_try(&mut said, &mut links)?;
+    add_try(said, &mut links)?;
     links.hang_up();
     said.push(b'|')?;
-    add_try(&mut said, &mut links)?;
+    add_try(said, &mut links)?;
     links.hang_up();
-    Ok(said)
+    Ok(())
 }

@@ -1,5 +1,0 @@
-//! Tests of the real objects.
-#![tactic(auto)]
-
-#[cfg(test)]
-mod tests;
