@@ -1,14 +1,15 @@
 #!/usr/bin/env python3
 """Measures the gate from nothing: what each crate takes of it, and for what.
 
-usage: bench/gate.py [NAME..]
+usage: bench/gate.py [--kept] [NAME..]
 
-Runs `rt ci --anew`, of the whole repository or of the crates named, looks four times a second at its processes, and
-prints a line a crate: the processor seconds of its proof, of the building of its tests and programs, and of the edits
-that have to be refused, and the seconds by the clock in which its proof ran. The last lines are the longest chain of
-proofs, each of which waits for the one before, and the whole in processor time and by the clock. A process that lives
-less than a look is counted in the whole alone. Where no proof was seen there is no chain. The exit status is that of the
-gate, and 2 where there is no rt.
+Runs `rt ci --anew`, of the whole repository or of the crates named and those below them, looks four times a second at its
+processes, and prints a line a crate: the processor seconds of its proof, of the building of its tests and programs, and of
+the edits that have to be refused, and the seconds by the clock in which its proof ran. With `--kept` it runs `rt ci`: what
+has passed on this machine is not proved again, so that a crate that was changed is measured alone. The last lines are the
+longest chain of proofs, each of which waits for the one before, and the whole in processor time and by the clock. A process
+that lives less than a look is counted in the whole alone. Where no proof was seen there is no chain. The exit status is that
+of the gate, and 2 where there is no rt.
 """
 import os
 import resource
@@ -118,8 +119,10 @@ def main():
     if not shutil.which("rt"):
         print("gate.py: rt is not on the path: it is the gate that is measured", file=sys.stderr)
         return 2
+    names = sys.argv[1:]
+    words = names[1:] if names[:1] == ["--kept"] else ["--anew", *names]
     began = time.monotonic()
-    with subprocess.Popen(["rt", "ci", "--anew", *sys.argv[1:]], cwd=TOP) as gate:
+    with subprocess.Popen(["rt", "ci", *words], cwd=TOP) as gate:
         watch = Watch(gate.pid)
         while gate.poll() is None:
             watch.look()
