@@ -1,4 +1,4 @@
--- The texts of replies (RFC 5321, 4.2, with the codes x.y.z of RFC 3463), of record lines and of log lines. The words behind the codes, the record
+-- The texts of replies (RFC 5321, 4.2, with the codes x.y.z of RFC 3463), of record lines and of log lines. The words after the codes, the record
 -- and the log are postgate's own.
 use Rattle.std.specs.Prelude.{ℕ, ◌++◌, List, [], ◌∷◌, codes}
 use Rattle.std.specs.Fmt.{decimal}
@@ -77,7 +77,7 @@ reply_text host (Quit reply) = quit_text reply
 unfoldable pub text_of : List ℕ → Reply → List ℕ
 text_of host reply = printed (reply_text host reply) ++ crlf
 
--- what a server says first: its banner behind the code (postconf(5), smtpd_banner; RFC 5321, 4.2)
+-- what a server says first: its banner after the code (postconf(5), smtpd_banner; RFC 5321, 4.2)
 unfoldable pub greeting_of : List ℕ → List ℕ
 greeting_of banner = printed (codes "220 " ++ banner) ++ crlf
 

@@ -5,9 +5,9 @@ pub returns : goal.returns
 unfolding denied_text
 returns c =
     let line = c.as_bytes.ensures.value in
-    let number = c.in_ok-line.ensures in
-    let local = c.as_slice.ensures in
-    let domain = c.as_slice-2.ensures in
+    let number = c.format.ensures.text in
+    let local = c.local.ensures in
+    let domain = c.domain.ensures in
     let place = c.as_bytes-2.ensures.value in
-    let at = c.in_ok-place.ensures in
-    simp (line, number, local, domain, place, at) at c.extend_all.ensures.ok
+    let at = c.format-2.ensures.text in
+    simp (line, number, local, domain, place, at) at c.add_all_printed.ensures
