@@ -85,16 +85,19 @@ greeting_of banner = printed (codes "220 " ++ banner) ++ crlf
 abbrev pub record_text : RecordLine → List ℕ
 record_text line = elim line [ ]
 
+-- what a log line begins with: the number of the command's line, and its recipient
+unfoldable pub recipient_text : ℕ → Address → List ℕ
+recipient_text line recipient = joined (decimal line ∷ codes " RCPT <" ∷ recipient.local ∷ codes "@" ∷ recipient.domain ∷ codes "> " ∷ [])
+
 -- a recipient that was accepted
 unfoldable pub accepted_text : ℕ → Address → List ℕ
-accepted_text line recipient =
-    joined (decimal line ∷ codes " RCPT <" ∷ recipient.local ∷ codes "@" ∷ recipient.domain ∷ codes "> accept" ∷ [])
+accepted_text line recipient = recipient_text line recipient ++ codes "accept"
 
 -- a recipient that was denied, with the place of the restriction in its list
 unfoldable pub denied_text : ℕ → Address → ℕ → List ℕ
 denied_text line recipient place =
-    joined (decimal line ∷ codes " RCPT <" ∷ recipient.local ∷ codes "@" ∷ recipient.domain
-    ∷ codes "> deny smtpd_relay_restrictions[" ∷ decimal place ∷ codes "] reject_unauth_destination -" ∷ [])
+    recipient_text line recipient
+    ++ joined (codes "deny smtpd_relay_restrictions[" ∷ decimal place ∷ codes "] reject_unauth_destination -" ∷ [])
 
 -- what was decided of a recipient, with the number of the command's line
 abbrev pub entry_text : Entry → List ℕ

@@ -6,7 +6,7 @@ ghost use Rattle.pf_smtp.specs.Text as spec;
 use crate::path::AddressRef;
 use crate::printing::add_all_printed;
 use itoa::Buffer;
-use pf_base::{Bytes, NoMemory};
+use pf_base::{Bytes, NoMemory, add_printed};
 
 /// What was decided of a recipient, with the number of the command's line, from 1. A denial names the place, from 1, of
 /// the restriction in smtpd_relay_restrictions that denied; only reject_unauth_destination denies.
@@ -23,9 +23,10 @@ pub enum Entry<'a> {
     },
 }
 
-#[tactic(auto, unfolding(crate::specs::Text::accepted_text))]
-fn print_accepted(line: u64, recipient: &AddressRef<'_>, log: &mut Bytes) -> Result<(), NoMemory>
-    ensures { OnOk result (log.new ≡ log.old ++ printed (spec.accepted_text line recipient.now)) }
+// Adds what a line begins with: the number of the command's line, and its recipient.
+#[tactic(auto, unfolding(crate::specs::Text::recipient_text))]
+fn print_recipient(line: u64, recipient: &AddressRef<'_>, log: &mut Bytes) -> Result<(), NoMemory>
+    ensures { OnOk result (log.new ≡ log.old ++ printed (spec.recipient_text line recipient.now)) }
 {
     let mut digits = Buffer::new();
     add_all_printed(
@@ -36,9 +37,17 @@ fn print_accepted(line: u64, recipient: &AddressRef<'_>, log: &mut Bytes) -> Res
             recipient.local(),
             b"@",
             recipient.domain(),
-            b"> accept",
+            b"> ",
         ],
     )
+}
+
+#[tactic(auto, unfolding(crate::specs::Text::accepted_text))]
+fn print_accepted(line: u64, recipient: &AddressRef<'_>, log: &mut Bytes) -> Result<(), NoMemory>
+    ensures { OnOk result (log.new ≡ log.old ++ printed (spec.accepted_text line recipient.now)) }
+{
+    print_recipient(line, recipient, log)?;
+    add_printed(log, b"accept")
 }
 
 #[tactic(auto, unfolding(crate::specs::Text::denied_text))]
@@ -50,18 +59,13 @@ fn print_denied(
 ) -> Result<(), NoMemory>
     ensures { OnOk result (log.new ≡ log.old ++ printed (spec.denied_text line recipient.now place)) }
 {
+    print_recipient(line, recipient, log)?;
     let mut digits = Buffer::new();
-    let mut place_digits = Buffer::new();
     add_all_printed(
         log,
         &[
-            digits.format(line).as_bytes(),
-            b" RCPT <",
-            recipient.local(),
-            b"@",
-            recipient.domain(),
-            b"> deny smtpd_relay_restrictions[",
-            place_digits.format(place).as_bytes(),
+            b"deny smtpd_relay_restrictions[",
+            digits.format(place).as_bytes(),
             b"] reject_unauth_destination -",
         ],
     )
