@@ -12,7 +12,7 @@ use Rattle.pf_smtp.specs.Path.{address_of, bracketed, is_local_byte, is_local_pa
 use Rattle.pf_smtp.specs.Clauses.Feeding.{fresh, given, going_of, partial_after}
 use Rattle.pf_smtp.specs.Session.{before, log_text, records_text, replies_text, session, start, stays, steps}
 use Rattle.pf_smtp.specs.Step.{command, helo, judged, line_step, logs, mail, mail_address, mail_path, quit, rcpt, rcpt_address, rcpt_path, says, step}
-use Rattle.pf_smtp.specs.Text.{accepted_text, crlf, denied_text, greeting_of, helo_text, joined, line_text, log_line, mail_text, quit_text, rcpt_text}
+use Rattle.pf_smtp.specs.Text.{accepted_text, crlf, denial_text, denied_text, greeting_of, helo_text, joined, line_text, log_line, mail_text, quit_text, rcpt_text}
 use Rattle.pf_smtp.specs.Text.{recipient_text, relay_denied_text, reply_text, text_of}
 use Rattle.pf_smtp.specs.declared.command.Verb.TheVariants as verb
 use Rattle.pf_smtp.specs.declared.entry.Entry.TheVariants.{Accepted, Denied}
@@ -279,7 +279,7 @@ no_text : replies_text site (stays idle) ≡ []
 no_text = refl
 
 log_lines_of_a_step : map log_text (judged begun ann Accept ∷ stays begun ∷ []) ≡ codes "7 RCPT <ann@Example.com> accept\n" ∷ [] ∷ []
-unfolding log_line printed_line accepted_text digits
+unfolding log_line printed_line accepted_text recipient_text digits
 log_lines_of_a_step = refl
 
 before_the_first_byte : fresh site ≡ record { setup = site; state = start; partial = [] }
@@ -378,15 +378,19 @@ beginning_of_a_log_line : recipient_text 12 ann ≡ codes "12 RCPT <ann@Example.
 unfolding recipient_text digits
 beginning_of_a_log_line = refl
 
+what_denied : denial_text 10 ≡ codes "deny smtpd_relay_restrictions[10] reject_unauth_destination -"
+unfolding denial_text digits
+what_denied = refl
+
 accepted_recipient : accepted_text 12 ann ≡ codes "12 RCPT <ann@Example.com> accept"
 unfolding accepted_text recipient_text digits
 accepted_recipient = refl
 
 denied_recipient : denied_text 3 joe 10 ≡ codes "3 RCPT <joe@other.test> deny smtpd_relay_restrictions[10] reject_unauth_destination -"
-unfolding denied_text recipient_text digits
+unfolding denied_text recipient_text denial_text digits
 denied_recipient = refl
 
 either_log_line : map log_line (Accepted 1 ann ∷ Denied 2 joe 1 ∷ []) ≡ codes "1 RCPT <ann@Example.com> accept\n"
     ∷ codes "2 RCPT <joe@other.test> deny smtpd_relay_restrictions[1] reject_unauth_destination -\n" ∷ []
-unfolding log_line printed_line accepted_text denied_text recipient_text digits
+unfolding log_line printed_line accepted_text denied_text recipient_text denial_text digits
 either_log_line = refl

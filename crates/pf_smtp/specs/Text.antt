@@ -93,11 +93,13 @@ recipient_text line recipient = joined (decimal line ∷ codes " RCPT <" ∷ rec
 unfoldable pub accepted_text : ℕ → Address → List ℕ
 accepted_text line recipient = recipient_text line recipient ++ codes "accept"
 
--- a recipient that was denied, with the place of the restriction in its list
+-- what denied a recipient: the place of the restriction in its list
+unfoldable pub denial_text : ℕ → List ℕ
+denial_text place = joined (codes "deny smtpd_relay_restrictions[" ∷ decimal place ∷ codes "] reject_unauth_destination -" ∷ [])
+
+-- a recipient that was denied
 unfoldable pub denied_text : ℕ → Address → ℕ → List ℕ
-denied_text line recipient place =
-    recipient_text line recipient
-    ++ joined (codes "deny smtpd_relay_restrictions[" ∷ decimal place ∷ codes "] reject_unauth_destination -" ∷ [])
+denied_text line recipient place = recipient_text line recipient ++ denial_text place
 
 -- what was decided of a recipient, with the number of the command's line
 abbrev pub entry_text : Entry → List ℕ

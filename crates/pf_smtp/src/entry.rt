@@ -50,6 +50,22 @@ fn print_accepted(line: u64, recipient: &AddressRef<'_>, log: &mut Bytes) -> Res
     add_printed(log, b"accept")
 }
 
+// Adds what denied a recipient.
+#[tactic(auto, unfolding(crate::specs::Text::denial_text))]
+fn print_denial(place: u64, log: &mut Bytes) -> Result<(), NoMemory>
+    ensures { OnOk result (log.new ≡ log.old ++ printed (spec.denial_text place)) }
+{
+    let mut digits = Buffer::new();
+    add_all_printed(
+        log,
+        &[
+            b"deny smtpd_relay_restrictions[",
+            digits.format(place).as_bytes(),
+            b"] reject_unauth_destination -",
+        ],
+    )
+}
+
 #[tactic(auto, unfolding(crate::specs::Text::denied_text))]
 fn print_denied(
     line: u64,
@@ -60,15 +76,7 @@ fn print_denied(
     ensures { OnOk result (log.new ≡ log.old ++ printed (spec.denied_text line recipient.now place)) }
 {
     print_recipient(line, recipient, log)?;
-    let mut digits = Buffer::new();
-    add_all_printed(
-        log,
-        &[
-            b"deny smtpd_relay_restrictions[",
-            digits.format(place).as_bytes(),
-            b"] reject_unauth_destination -",
-        ],
-    )
+    print_denial(place, log)
 }
 
 impl<'a> Entry<'a> {
