@@ -1,5 +1,4 @@
 //! Addresses and paths (RFC 5321, 4.1.2).
-ghost use Rattle.std.specs.Prelude.{◌≡◌};
 
 use pf_base::{Bytes, NoMemory};
 use std::alloc::AllocError;
@@ -38,9 +37,12 @@ pub enum PathFault {
 }
 
 impl From<NoMemory> for PathFault {
-    fn from(_: NoMemory) -> PathFault
-        ensures { result ≡ PathFault.NoMemory }
-    {
+    ghost use Rattle.std.specs.Prelude.{◌≡◌};
+    ghost use Rattle.pf_addr.specs.declared.address.PathFault.TheVariants.{NoMemory};
+
+    ghost from_gives = { λ _ fault. fault ≡ NoMemory };
+
+    fn from(_: NoMemory) -> PathFault {
         PathFault::NoMemory
     }
 }

@@ -15,7 +15,7 @@ use Rattle.pf_smtp.specs.Clauses.Feeding.{fresh, given, texts_given}
 use Rattle.pf_smtp.specs.Session.{session, start, steps, texts_of}
 use Rattle.pf_smtp.specs.Step.{Step}
 use Rattle.pf_smtp.specs.Text.{greeting_of}
-use Rattle.pf_smtp.specs.declared.session.Going.TheVariants as going
+use Rattle.pf_smtp.specs.declared.session.Going.TheVariants as goes
 use Rattle.pf_smtp.specs.declared.progress.Progress.{Progress}
 use Rattle.pf_smtp.specs.declared.state.Setup.{Setup}
 use Rattle.pf_top.specs.Talk.{EndsAs, HasSession, Speech, Talked, Talks, TalksCut, TalksShort, TalksUntil, speech_of}
@@ -25,11 +25,11 @@ use Rattle.pf_top.specs.declared.talk.Ended.TheVariants as ended
 use Rattle.pf_top.specs.declared.talk.TalkFault.{TalkFault}
 use Rattle.pf_top.specs.declared.talk.TalkFault.TheVariants as fault
 
-pub going_more : (b : Bool) → going.More ≡ (if b then going.Ended else going.More) → b ≡ false
+pub going_more : (b : Bool) → goes.More ≡ (if b then goes.Ended else goes.More) → b ≡ false
 going_more true e = cc
 going_more false e = refl
 
-pub going_over : (b : Bool) → going.Ended ≡ (if b then going.Ended else going.More) → b ≡ true
+pub going_over : (b : Bool) → goes.Ended ≡ (if b then goes.Ended else goes.More) → b ≡ true
 going_over true e = refl
 going_over false e = cc
 
