@@ -1,4 +1,5 @@
 //! Addresses and paths (RFC 5321, 4.1.2).
+ghost use Rattle.std.specs.Prelude.{◌≡◌};
 
 use pf_base::{Bytes, NoMemory};
 use std::alloc::AllocError;
@@ -37,12 +38,9 @@ pub enum PathFault {
 }
 
 impl From<NoMemory> for PathFault {
-    ghost use Rattle.std.specs.Prelude.{◌≡◌};
-    ghost use Rattle.pf_addr.specs.declared.address.PathFault.TheVariants.{NoMemory};
-
-    ghost from_gives = { λ _ fault. fault ≡ NoMemory };
-
-    fn from(_: NoMemory) -> PathFault {
+    fn from(_: NoMemory) -> PathFault
+        ensures { result ≡ PathFault.NoMemory }
+    {
         PathFault::NoMemory
     }
 }

@@ -128,8 +128,9 @@ fn read(alloc: Global, text: &[u8]) -> Result<Option<PathRead>, NoMemory>
 pub fn path(alloc: Global, text: &[u8]) -> Result<PathRead, PathFault>
     ensures { Unless result PathFault.NoMemory (Reads text.now) }
 {
-    match read(alloc, text)? {
-        None => Err(PathFault::Malformed),
-        Some(read) => Ok(read),
+    match read(alloc, text) {
+        Err(NoMemory) => Err(PathFault::NoMemory),
+        Ok(None) => Err(PathFault::Malformed),
+        Ok(Some(read)) => Ok(read),
     }
 }
