@@ -57,6 +57,17 @@ enum LineFault {
     NoMemory,
 }
 
+impl From<NoMemory> for LineFault {
+    ghost use Rattle.std.specs.Prelude.{◌≡◌};
+    ghost use Rattle.pf_cidr.specs.declared.table.LineFault.TheVariants.{NoMemory};
+
+    ghost from_gives = { λ _ fault. fault ≡ NoMemory };
+
+    fn from(_: NoMemory) -> LineFault {
+        LineFault::NoMemory
+    }
+}
+
 // What was read of a table: its lines, its results, and the numbers of the lines whose conditions are open, the outermost first.
 #[derive(Drop)]
 struct Reading {
@@ -89,10 +100,10 @@ impl Reading {
     {
         match self.pending.pop() {
             None => Err(LineFault::Refused(Reason::EndifWithoutIf)),
-            Some(_) => match self.entries.push(Entry::Endif) {
-                Ok(()) => Ok(()),
-                Err(NoMemory) => Err(LineFault::NoMemory),
-            },
+            Some(_) => {
+                self.entries.push(Entry::Endif)?;
+                Ok(())
+            }
         }
     }
 
@@ -101,14 +112,14 @@ impl Reading {
     {
         match entry_of(text) {
             Err(reason) => Err(LineFault::Refused(reason)),
-            Ok(Entry::Rule(pattern)) => match self.add_rule(alloc, pattern, value_of(text)) {
-                Ok(()) => Ok(()),
-                Err(NoMemory) => Err(LineFault::NoMemory),
-            },
-            Ok(Entry::If(pattern)) => match self.add_condition(line, pattern) {
-                Ok(()) => Ok(()),
-                Err(NoMemory) => Err(LineFault::NoMemory),
-            },
+            Ok(Entry::Rule(pattern)) => {
+                self.add_rule(alloc, pattern, value_of(text))?;
+                Ok(())
+            }
+            Ok(Entry::If(pattern)) => {
+                self.add_condition(line, pattern)?;
+                Ok(())
+            }
             Ok(Entry::Endif) => self.close(),
         }
     }

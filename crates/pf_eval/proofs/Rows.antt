@@ -39,8 +39,8 @@ first_of_a_net = refl
 last_of_a_net : net_has ten 184549375 ≡ true
 last_of_a_net = refl
 
-behind_a_net : net_has ten 184549376 ≡ false
-behind_a_net = refl
+after_a_net : net_has ten 184549376 ≡ false
+after_a_net = refl
 
 prefix_of_none_has_all : net_has (record { addr = 0; prefix = 0 }) 4294967295 ≡ true
 prefix_of_none_has_all = refl

@@ -24,7 +24,7 @@ impl Model for PlainNet {
 }
 
 impl PlainNet {
-    /// The network of an address with a prefix; None exactly where the prefix is above 32. Bits behind it don't count.
+    /// The network of an address with a prefix; None exactly where the prefix is above 32. Bits after those don't count.
     pub fn new(addr: u32, prefix: u8) -> Option<PlainNet>
         ensures some { IsSome result ↔ (prefix ≤ 32) }
         ensures net { IfSome result (λ net. net ≡ record { addr = addr; prefix = prefix }) }
@@ -40,7 +40,7 @@ impl PlainNet {
     pub fn has(&self, client: u32) -> bool
         ensures { result ≡ net_has self.now client }
     {
-        let behind = 32 - self.prefix;
-        u64::from(client) >> behind == u64::from(self.addr) >> behind
+        let left_out = 32 - self.prefix;
+        u64::from(client) >> left_out == u64::from(self.addr) >> left_out
     }
 }

@@ -1,4 +1,5 @@
 pub mod PieceLemmas
+pub mod PrintingLemmas
 pub mod Rows
 pub mod StepLemmas
 pub mod TookLemmas

@@ -10,31 +10,31 @@ use Rattle.pf_base.proofs.LineEnds.{rest_of_none}
 use Rattle.pf_base.specs.Objects.{joined}
 use Rattle.pf_base.specs.declared.texts.Texts.{Texts}
 use Rattle.pf_smtp.specs.Clauses.Gathering.{AnswersLine, AnswersPiece, ComesDownTo, line_given}
-use Rattle.pf_smtp.specs.Clauses.Feeding.{given, part_behind}
+use Rattle.pf_smtp.specs.Clauses.Feeding.{given, partial_after}
 use Rattle.pf_smtp.specs.Session.{before, log_text, records_text, replies_text, stays, steps, texts_of}
 use Rattle.pf_smtp.specs.Step.{Step}
 use Rattle.pf_smtp.specs.Text.{text_of, record_text, log_line}
 use Rattle.pf_smtp.specs.declared.record_line.RecordLine.{RecordLine}
-use Rattle.pf_smtp.specs.declared.standing.Standing.{Standing}
+use Rattle.pf_smtp.specs.declared.progress.Progress.{Progress}
 use Rattle.pf_smtp.specs.declared.state.Setup.{Setup}
 use Rattle.pf_smtp.specs.declared.state.State.{State}
-use Rattle.pf_smtp.proofs.StepLemmas.{steps_over, onto_line_nothing}
+use Rattle.pf_smtp.proofs.StepLemmas.{steps_ended, onto_line_nothing}
 
 -- what a buffer keeps of more bytes
-pub kept_front : (old bytes : List ℕ) → length old ≤ 2050 → old ++ take (min (2050 - length old) (length bytes)) bytes ≡ take 2050 (old ++ bytes)
-kept_front old bytes h =
+pub kept_prefix : (old bytes : List ℕ) → length old ≤ 2050 → old ++ take (min (2050 - length old) (length bytes)) bytes ≡ take 2050 (old ++ bytes)
+kept_prefix old bytes h =
     let n : length old + (2050 - length old) ≡ 2050 = omega arith in
     ap (λ l. old ++ l) (take_min (2050 - length old) bytes) ∙ sym (take-append-add old bytes (2050 - length old)) ∙ ap (λ k. take k (old ++ bytes)) n
 
-pub given_none : (s : Standing) (left : List ℕ) → lines left ≡ [] → given s left ≡ stays s.state
+pub given_none : (s : Progress) (left : List ℕ) → lines left ≡ [] → given s left ≡ stays s.state
 unfolding steps
 given_none s left e = rw e
 
-pub part_none : (s : Standing) (left : List ℕ) → lines left ≡ [] → part_behind s left ≡ take 2050 (s.part ++ left)
-part_none s left e = rw e
+pub partial_none : (s : Progress) (left : List ℕ) → lines left ≡ [] → partial_after s left ≡ take 2050 (s.partial ++ left)
+partial_none s left e = rw e
 
-pub given_over : (s : Standing) (left : List ℕ) → s.state.over ≡ true → given s left ≡ stays s.state
-given_over s left e = steps_over s.setup s.state (onto_line s.part (lines left)) e
+pub given_ended : (s : Progress) (left : List ℕ) → s.state.ended ≡ true → given s left ≡ stays s.state
+given_ended s left e = steps_ended s.setup s.state (onto_line s.partial (lines left)) e
 
 pub replies_text-before : (setup : Setup) (a b : Step) → replies_text setup (before a b) ≡ replies_text setup a ++ replies_text setup b
 replies_text-before setup a b = flat_map-append (text_of setup.host) a.replies b.replies
@@ -50,7 +50,7 @@ pub no_records : (records : List RecordLine) → flat_map record_text records �
 no_records [] = refl
 no_records (line ∷ records) = elim line [ ]
 
-pub no_record : {before now : Texts} {old new : Standing} {piece : List ℕ} → before.mail ≡ [] → AnswersPiece before now old new piece → now.mail ≡ []
+pub no_record : {before now : Texts} {old new : Progress} {piece : List ℕ} → before.mail ≡ [] → AnswersPiece before now old new piece → now.mail ≡ []
 no_record {old = old} {piece = piece} none answers =
     ap (λ t. t.mail) answers.texts ∙ ap (λ m. m ++ records_text (given old piece)) none ∙ no_records (given old piece).records
 
@@ -68,42 +68,42 @@ pub same_texts : {a b : Texts} → a.out ≡ b.out → a.mail ≡ b.mail → a.l
 same_texts {a} {b} out mail log =
     ap (λ x. record a { out = x }) out ∙ ap (λ x. record { out = b.out; mail = x; log = a.log }) mail ∙ ap (λ x. record b { log = x }) log
 
--- where a session stands behind a line
-abbrev pub behind_line : Standing → List ℕ → Standing
-behind_line s line = record { setup = s.setup; state = (line_given s line).next; part = [] }
+-- the progress of a session after a line
+abbrev pub after_line : Progress → List ℕ → Progress
+after_line s line = record { setup = s.setup; state = (line_given s line).next; partial = [] }
 
-given_line : (s : Standing) (left line behind : List ℕ) → lines left ≡ line ∷ lines behind → s.state.over ≡ false
-    → given s left ≡ before (line_given s line) (given (behind_line s line) behind)
+given_line : (s : Progress) (left line after : List ℕ) → lines left ≡ line ∷ lines after → s.state.ended ≡ false
+    → given s left ≡ before (line_given s line) (given (after_line s line) after)
 unfolding steps
-given_line s left line behind e over = rw (e, over, onto_line_nothing (lines behind))
+given_line s left line after e going = rw (e, going, onto_line_nothing (lines after))
 
-part_line : (s : Standing) (left line behind : List ℕ) → lines left ≡ line ∷ lines behind → rest left ≡ rest behind → part_behind s left ≡ part_behind (behind_line s line) behind
-part_line s left line behind e r = rw (e, r) (ap (take 2050) (none (lines behind) (rest_of_none behind))) where
-  none : (L : List (List ℕ)) → (L ≡ [] → rest behind ≡ behind) → rest behind ≡ unless_line L behind (rest behind)
+partial_line : (s : Progress) (left line after : List ℕ) → lines left ≡ line ∷ lines after → rest left ≡ rest after → partial_after s left ≡ partial_after (after_line s line) after
+partial_line s left line after e r = rw (e, r) (ap (take 2050) (none (lines after) (rest_of_none after))) where
+  none : (L : List (List ℕ)) → (L ≡ [] → rest after ≡ after) → rest after ≡ unless_line L after (rest after)
   none [] h = h refl
   none (l ∷ ls) h = refl
 
 -- nothing is left to answer
-pub answers_at_end : {b n : Texts} {old new : Standing} {piece left : List ℕ} → ComesDownTo b n old new piece left → given new left ≡ stays new.state
-    → (part : List ℕ) → (new.state.over ≡ false → part ≡ part_behind new left) → AnswersPiece b n old (record { setup = new.setup; state = new.state; part = part }) piece
-answers_at_end {b} {n} {old} {new} {piece} {left} c e part h = record {
+pub answers_at_end : {b n : Texts} {old new : Progress} {piece left : List ℕ} → ComesDownTo b n old new piece left → given new left ≡ stays new.state
+    → (partial : List ℕ) → (new.state.ended ≡ false → partial ≡ partial_after new left) → AnswersPiece b n old (record { setup = new.setup; state = new.state; partial = partial }) piece
+answers_at_end {b} {n} {old} {new} {piece} {left} c e partial h = record {
   texts = sym (c.texts ∙ ap (λ g. joined n (texts_of new.setup g)) e ∙ joined_none n new.setup new.state);
   setup = c.setup;
   state = sym (c.state ∙ ap (λ g. g.next) e);
-  part = λ over. h over ∙ sym c.part;
+  partial = λ going. h going ∙ sym c.partial;
 }
 
 -- one more line was answered
-pub comes_down_line : {b n m : Texts} {old s t : Standing} {piece left line : List ℕ} (behind : List ℕ) → ComesDownTo b n old s piece left → AnswersLine n m s t line
-    → lines left ≡ line ∷ lines behind → rest left ≡ rest behind → s.state.over ≡ false → ComesDownTo b m old t piece behind
-comes_down_line {b} {n} {m} {old} {s} {t} {piece} {left} {line} behind c a e r over =
+pub comes_down_line : {b n m : Texts} {old s t : Progress} {piece left line : List ℕ} (after : List ℕ) → ComesDownTo b n old s piece left → AnswersLine n m s t line
+    → lines left ≡ line ∷ lines after → rest left ≡ rest after → s.state.ended ≡ false → ComesDownTo b m old t piece after
+comes_down_line {b} {n} {m} {old} {s} {t} {piece} {left} {line} after c a e r going =
     let first = line_given s line in
-    let next = given (behind_line s line) behind in
-    let g = given_line s left line behind e over in
-    subst (λ u. ComesDownTo b m old u piece behind) (sym a.standing) (record {
+    let next = given (after_line s line) after in
+    let g = given_line s left line after e going in
+    subst (λ u. ComesDownTo b m old u piece after) (sym a.progress) (record {
       texts = c.texts ∙ ap (λ x. joined n (texts_of s.setup x)) g ∙ ap (joined n) (texts-before s.setup first next)
           ∙ sym (joined_assoc n (texts_of s.setup first) (texts_of s.setup next)) ∙ ap (λ x. joined x (texts_of s.setup next)) (sym a.texts);
       setup = c.setup;
       state = c.state ∙ ap (λ x. x.next) g;
-      part = c.part ∙ part_line s left line behind e r;
+      partial = c.partial ∙ partial_line s left line after e r;
     })

@@ -9,11 +9,11 @@ use Rattle.pf_eval.specs.declared.policy.PlainItem.TheVariants.{PermitMynetworks
 use Rattle.pf_smtp.specs.Command.{after_keyword, argument_of, verb_named, verb_of}
 use Rattle.pf_smtp.specs.Clauses.Gathering.{line_given}
 use Rattle.pf_smtp.specs.Path.{address_of, bracketed, is_local_byte, is_local_part, path_of}
-use Rattle.pf_smtp.specs.Clauses.Feeding.{fresh, given, going_of, part_behind}
+use Rattle.pf_smtp.specs.Clauses.Feeding.{fresh, given, going_of, partial_after}
 use Rattle.pf_smtp.specs.Session.{before, log_text, records_text, replies_text, session, start, stays, steps}
 use Rattle.pf_smtp.specs.Step.{command, helo, judged, line_step, logs, mail, mail_address, mail_path, quit, rcpt, rcpt_address, rcpt_path, says, step}
-use Rattle.pf_smtp.specs.Text.{accepted_text, crlf, denied_text, greeting_of, helo_text, joined, line_text, log_line, mail_text, quit_text, rcpt_text}
-use Rattle.pf_smtp.specs.Text.{relay_denied_text, reply_text, text_of}
+use Rattle.pf_smtp.specs.Text.{accepted_text, crlf, denial_text, denied_text, greeting_of, helo_text, joined, line_text, log_line, mail_text, quit_text, rcpt_text}
+use Rattle.pf_smtp.specs.Text.{recipient_text, relay_denied_text, reply_text, text_of}
 use Rattle.pf_smtp.specs.declared.command.Verb.TheVariants as verb
 use Rattle.pf_smtp.specs.declared.entry.Entry.TheVariants.{Accepted, Denied}
 use Rattle.pf_smtp.specs.declared.path.Address.{Address}
@@ -23,7 +23,7 @@ use Rattle.pf_smtp.specs.declared.reply.MailReply.TheVariants as mail_reply
 use Rattle.pf_smtp.specs.declared.reply.QuitReply.TheVariants as quit_reply
 use Rattle.pf_smtp.specs.declared.reply.RcptReply.TheVariants as rcpt_reply
 use Rattle.pf_smtp.specs.declared.reply.Reply.TheVariants.{Line, Helo, Mail, Rcpt, Quit}
-use Rattle.pf_smtp.specs.declared.session.Going.TheVariants.{More, Over}
+use Rattle.pf_smtp.specs.declared.session.Going.TheVariants.{More, Ended}
 use Rattle.pf_smtp.specs.declared.state.Setup.{Setup}
 use Rattle.pf_smtp.specs.declared.state.State.{State}
 
@@ -47,13 +47,13 @@ abbrev ann : Address
 ann = record { local = codes "ann"; domain = codes "Example.com" }
 
 abbrev idle : State
-idle = record { line = 7; sender = None; over = false }
+idle = record { line = 7; sender = None; ended = false }
 
 abbrev begun : State
-begun = record { line = 7; sender = Some joe; over = false }
+begun = record { line = 7; sender = Some joe; ended = false }
 
 abbrev ended : State
-ended = record { line = 7; sender = None; over = true }
+ended = record { line = 7; sender = None; ended = true }
 
 -- verbs
 verbs_in_any_case : map verb_named (codes "helo" ∷ codes "Mail" ∷ codes "rcPT" ∷ codes "QUIT" ∷ [])
@@ -143,9 +143,9 @@ mail_begins_a_transaction : mail idle (codes "from:<joe@other.test>") ≡ says (
 unfolding after_keyword path_of
 mail_begins_a_transaction = refl
 
-option_behind_a_path : mail idle (codes "FROM:<joe@other.test> SIZE=1") ≡ says (Mail mail_reply.BadSender) idle
+option_after_a_path : mail idle (codes "FROM:<joe@other.test> SIZE=1") ≡ says (Mail mail_reply.BadSender) idle
 unfolding after_keyword path_of
-option_behind_a_path = refl
+option_after_a_path = refl
 
 keyword_of_rcpt_in_mail : mail idle (codes "TO:<joe@other.test>") ≡ says (Mail mail_reply.Syntax) idle
 unfolding after_keyword
@@ -171,9 +171,9 @@ recipient_paths = refl
 need_of_mail_before_syntax : rcpt site idle (codes "x") ≡ says (Rcpt rcpt_reply.NeedMail) idle
 need_of_mail_before_syntax = refl
 
-space_behind_a_keyword : rcpt site begun (codes "to: <joe@other.test>") ≡ logs (Rcpt (rcpt_reply.RelayDenied joe)) (Denied 7 joe 2) begun
+space_after_a_keyword : rcpt site begun (codes "to: <joe@other.test>") ≡ logs (Rcpt (rcpt_reply.RelayDenied joe)) (Denied 7 joe 2) begun
 unfolding after_keyword path_of end_of
-space_behind_a_keyword = refl
+space_after_a_keyword = refl
 
 path_without_brackets : rcpt site begun (codes "TO:ann@Example.com") ≡ says (Rcpt rcpt_reply.BadRecipient) begun
 unfolding after_keyword path_of
@@ -220,7 +220,7 @@ unfolding command verb_of
 space_alone = refl
 
 abbrev later : State
-later = record { line = 8; sender = None; over = false }
+later = record { line = 8; sender = None; ended = false }
 
 return_does_not_count : step site idle (replicate 2048 97 ++ 13 ∷ []) ≡ says (Line NotRecognized) later
 unfolding step command verb_of
@@ -242,25 +242,25 @@ one_after_the_other : before (logs (Rcpt rcpt_reply.Taken) (Accepted 7 ann) begu
     ≡ record { replies = Rcpt rcpt_reply.Taken ∷ Helo Hello ∷ []; records = []; entries = Accepted 7 ann ∷ []; next = idle }
 one_after_the_other = refl
 
-lines_behind_quit : steps site idle (codes "QUIT\r" ∷ codes "X" ∷ []) ≡ says (Quit quit_reply.Bye) (record { line = 8; sender = None; over = true })
+lines_after_quit : steps site idle (codes "QUIT\r" ∷ codes "X" ∷ []) ≡ says (Quit quit_reply.Bye) (record { line = 8; sender = None; ended = true })
 unfolding steps step command verb_of
-lines_behind_quit = refl
+lines_after_quit = refl
 
 over_at_the_start : steps site ended (codes "X" ∷ []) ≡ stays ended
 unfolding steps
 over_at_the_start = refl
 
-state_at_the_start : start ≡ record { line = 0; sender = None; over = false }
+state_at_the_start : start ≡ record { line = 0; sender = None; ended = false }
 state_at_the_start = refl
 
 empty_input : session site [] ≡ stays start
 unfolding steps lines
 empty_input = refl
 
-bytes_behind_the_last_line : session site (codes "HELO a\r\n\nQUIT")
-    ≡ record { replies = Helo Hello ∷ Line BadSyntax ∷ []; records = []; entries = []; next = record { line = 2; sender = None; over = false } }
+bytes_after_the_last_line : session site (codes "HELO a\r\n\nQUIT")
+    ≡ record { replies = Helo Hello ∷ Line BadSyntax ∷ []; records = []; entries = []; next = record { line = 2; sender = None; ended = false } }
 unfolding steps step command verb_of lines
-bytes_behind_the_last_line = refl
+bytes_after_the_last_line = refl
 
 helo_between_mail_and_rcpt : (session site (codes "MAIL FROM:<joe@other.test>\nHELO a\nRCPT TO:<ann@Example.com>\n")).replies
     ≡ Mail mail_reply.Taken ∷ Helo Hello ∷ Rcpt rcpt_reply.NeedMail ∷ []
@@ -279,36 +279,36 @@ no_text : replies_text site (stays idle) ≡ []
 no_text = refl
 
 log_lines_of_a_step : map log_text (judged begun ann Accept ∷ stays begun ∷ []) ≡ codes "7 RCPT <ann@Example.com> accept\n" ∷ [] ∷ []
-unfolding log_line printed_line accepted_text digits
+unfolding log_line printed_line accepted_text recipient_text digits
 log_lines_of_a_step = refl
 
-before_the_first_byte : fresh site ≡ record { setup = site; state = start; part = [] }
+before_the_first_byte : fresh site ≡ record { setup = site; state = start; partial = [] }
 before_the_first_byte = refl
 
-line_in_two_pieces : given (record { setup = site; state = idle; part = codes "QU" }) (codes "IT\nX\n")
-    ≡ says (Quit quit_reply.Bye) (record { line = 8; sender = None; over = true })
+line_in_two_pieces : given (record { setup = site; state = idle; partial = codes "QU" }) (codes "IT\nX\n")
+    ≡ says (Quit quit_reply.Bye) (record { line = 8; sender = None; ended = true })
 unfolding steps step command verb_of lines
 line_in_two_pieces = refl
 
-line_that_has_not_ended : given (record { setup = site; state = idle; part = codes "QU" }) (codes "IT") ≡ stays idle
+line_that_has_not_ended : given (record { setup = site; state = idle; partial = codes "QU" }) (codes "IT") ≡ stays idle
 unfolding steps lines
 line_that_has_not_ended = refl
 
-end_of_a_line : line_given (record { setup = site; state = idle; part = codes "QUI" }) (codes "\r") ≡ says (Line NotRecognized) later
+end_of_a_line : line_given (record { setup = site; state = idle; partial = codes "QUI" }) (codes "\r") ≡ says (Line NotRecognized) later
 unfolding step command verb_of
 end_of_a_line = refl
 
-part_of_a_line : map (part_behind (record { setup = site; state = idle; part = codes "QU" })) (codes "I" ∷ codes "IT\nHE" ∷ codes "IT\n" ∷ [])
+part_of_a_line : map (partial_after (record { setup = site; state = idle; partial = codes "QU" })) (codes "I" ∷ codes "IT\nHE" ∷ codes "IT\n" ∷ [])
     ≡ codes "QUI" ∷ codes "HE" ∷ [] ∷ []
 unfolding lines rest
 part_of_a_line = refl
 
-longest_part : length (part_behind (fresh site) (replicate 2051 97)) ≡ 2050
+longest_partial_line : length (partial_after (fresh site) (replicate 2051 97)) ≡ 2050
 unfolding lines rest
-longest_part = refl
+longest_partial_line = refl
 
-over_or_not : map going_of (idle ∷ ended ∷ []) ≡ More ∷ Over ∷ []
-over_or_not = refl
+ended_or_not : map going_of (idle ∷ ended ∷ []) ≡ More ∷ Ended ∷ []
+ended_or_not = refl
 
 -- texts of replies
 parts_in_turn : joined (codes "a" ∷ [] ∷ codes "bc" ∷ []) ≡ codes "abc"
@@ -374,15 +374,23 @@ unfolding text_of helo_text
 control_bytes_in_a_reply = refl
 
 -- log lines
+beginning_of_a_log_line : recipient_text 12 ann ≡ codes "12 RCPT <ann@Example.com> "
+unfolding recipient_text digits
+beginning_of_a_log_line = refl
+
+what_denied : denial_text 10 ≡ codes "deny smtpd_relay_restrictions[10] reject_unauth_destination -"
+unfolding denial_text digits
+what_denied = refl
+
 accepted_recipient : accepted_text 12 ann ≡ codes "12 RCPT <ann@Example.com> accept"
-unfolding accepted_text digits
+unfolding accepted_text recipient_text digits
 accepted_recipient = refl
 
 denied_recipient : denied_text 3 joe 10 ≡ codes "3 RCPT <joe@other.test> deny smtpd_relay_restrictions[10] reject_unauth_destination -"
-unfolding denied_text digits
+unfolding denied_text recipient_text denial_text digits
 denied_recipient = refl
 
 either_log_line : map log_line (Accepted 1 ann ∷ Denied 2 joe 1 ∷ []) ≡ codes "1 RCPT <ann@Example.com> accept\n"
     ∷ codes "2 RCPT <joe@other.test> deny smtpd_relay_restrictions[1] reject_unauth_destination -\n" ∷ []
-unfolding log_line printed_line accepted_text denied_text digits
+unfolding log_line printed_line accepted_text denied_text recipient_text denial_text digits
 either_log_line = refl

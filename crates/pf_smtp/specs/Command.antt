@@ -15,7 +15,7 @@ verb_named word =
     else (if same_in_any_case word (codes "QUIT") then Quit
     else Other)))
 
--- the verb of a line without space at its ends: what stands before its first space
+-- the verb of a line without space at its ends: that of its first word
 unfoldable pub verb_of : List ℕ → Verb
 verb_of line = if length line == 0 then Empty else verb_named (before_first is_space line)
 
@@ -23,7 +23,7 @@ verb_of line = if length line == 0 then Empty else verb_named (before_first is_s
 abbrev pub argument_of : List ℕ → List ℕ
 argument_of line = trimmed (after_first is_space line)
 
--- what stands behind a keyword, which is read in any case, and space
+-- what comes after a keyword, which is read in any case, and space
 unfoldable pub after_keyword : List ℕ → List ℕ → Option (List ℕ)
 after_keyword keyword argument =
     if same_in_any_case (take (length keyword) argument) keyword then Some (without_leading_space (drop (length keyword) argument)) else None

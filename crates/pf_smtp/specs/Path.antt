@@ -15,7 +15,7 @@ is_local_byte b = is_ascii_alphanumeric b || b == ascii.dot || b == ascii.hyphen
 abbrev pub is_local_part : List ℕ → Bool
 is_local_part text = nat_lt 0 (length text) && list_all is_local_byte text
 
--- what stands between < and >
+-- the text between < and >
 abbrev pub bracketed : List ℕ → Option (List ℕ)
 bracketed text =
     if slice_index text 0 == ascii.less_than_sign && slice_index text (length text - 1) == ascii.greater_than_sign

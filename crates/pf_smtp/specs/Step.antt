@@ -31,7 +31,7 @@ pub record Step : Type 0 where
   pub entries : List Entry
   pub next : State
 
--- one reply, and the state behind it
+-- one reply, and the state after it
 abbrev pub says : Reply → State → Step
 says reply state = record { replies = reply ∷ []; records = []; entries = []; next = state }
 
@@ -49,7 +49,7 @@ abbrev pub mail_address : State → Option Address → Step
 mail_address state None = says (Mail mail_reply.BadSender) state
 mail_address state (Some address) = says (Mail mail_reply.Taken) (record state { sender = Some address })
 
--- its path, where it has its keyword
+-- MAIL, by what comes after its keyword
 abbrev pub mail_path : State → Option (List ℕ) → Step
 mail_path state None = says (Mail mail_reply.Syntax) state
 mail_path state (Some text) = mail_address state (path_of text)
@@ -64,12 +64,12 @@ abbrev pub judged : State → Address → PlainEnd → Step
 judged state address Accept = logs (Rcpt rcpt_reply.Taken) (Accepted state.line address) state
 judged state address (Deny place) = logs (Rcpt (rcpt_reply.RelayDenied address)) (Denied state.line address place) state
 
--- its address
+-- RCPT, by the address of its path
 abbrev pub rcpt_address : Setup → State → Option Address → Step
 rcpt_address setup state None = says (Rcpt rcpt_reply.BadRecipient) state
 rcpt_address setup state (Some address) = judged state address (end_of setup.policy setup.client address.domain)
 
--- its path, where it has its keyword
+-- RCPT, by what comes after its keyword
 abbrev pub rcpt_path : Setup → State → Option (List ℕ) → Step
 rcpt_path setup state None = says (Rcpt rcpt_reply.Syntax) state
 rcpt_path setup state (Some text) = rcpt_address setup state (path_of text)
@@ -82,7 +82,7 @@ rcpt setup state argument =
 -- QUIT, which ends the session (RFC 5321, 4.1.1.10)
 abbrev pub quit : State → List ℕ → Step
 quit state argument =
-    if length argument == 0 then says (Quit quit_reply.Bye) (record state { over = true }) else says (Quit quit_reply.Syntax) state
+    if length argument == 0 then says (Quit quit_reply.Bye) (record state { ended = true }) else says (Quit quit_reply.Syntax) state
 
 -- the row of a verb
 unfoldable pub command : Setup → State → Verb → List ℕ → Step
@@ -103,6 +103,6 @@ line_step setup state line =
     if nat_lt line_limit (length line) then says (Line TooLong) state
     else command setup state (verb_of (trimmed line)) (argument_of (trimmed line))
 
--- the next line as it stands before its line feed; lines are numbered from 1
+-- the next line, as it is before its line feed; lines are numbered from 1
 unfoldable pub step : Setup → State → List ℕ → Step
 step setup state raw = line_step setup (record state { line = counted state.line }) (without_return raw)

@@ -1,4 +1,4 @@
--- The texts of replies (RFC 5321, 4.2, with the codes x.y.z of RFC 3463), of record lines and of log lines. The words behind the codes, the record
+-- The texts of replies (RFC 5321, 4.2, with the codes x.y.z of RFC 3463), of record lines and of log lines. The words after the codes, the record
 -- and the log are postgate's own.
 use Rattle.std.specs.Prelude.{ℕ, ◌++◌, List, [], ◌∷◌, codes}
 use Rattle.std.specs.Fmt.{decimal}
@@ -77,7 +77,7 @@ reply_text host (Quit reply) = quit_text reply
 unfoldable pub text_of : List ℕ → Reply → List ℕ
 text_of host reply = printed (reply_text host reply) ++ crlf
 
--- what a server says first: its banner behind the code (postconf(5), smtpd_banner; RFC 5321, 4.2)
+-- what a server says first: its banner after the code (postconf(5), smtpd_banner; RFC 5321, 4.2)
 unfoldable pub greeting_of : List ℕ → List ℕ
 greeting_of banner = printed (codes "220 " ++ banner) ++ crlf
 
@@ -85,16 +85,21 @@ greeting_of banner = printed (codes "220 " ++ banner) ++ crlf
 abbrev pub record_text : RecordLine → List ℕ
 record_text line = elim line [ ]
 
+-- what a log line begins with: the number of the command's line, and its recipient
+unfoldable pub recipient_text : ℕ → Address → List ℕ
+recipient_text line recipient = joined (decimal line ∷ codes " RCPT <" ∷ recipient.local ∷ codes "@" ∷ recipient.domain ∷ codes "> " ∷ [])
+
 -- a recipient that was accepted
 unfoldable pub accepted_text : ℕ → Address → List ℕ
-accepted_text line recipient =
-    joined (decimal line ∷ codes " RCPT <" ∷ recipient.local ∷ codes "@" ∷ recipient.domain ∷ codes "> accept" ∷ [])
+accepted_text line recipient = recipient_text line recipient ++ codes "accept"
 
--- a recipient that was denied, with the place of the restriction in its list
+-- what denied a recipient: the place of the restriction in its list
+unfoldable pub denial_text : ℕ → List ℕ
+denial_text place = joined (codes "deny smtpd_relay_restrictions[" ∷ decimal place ∷ codes "] reject_unauth_destination -" ∷ [])
+
+-- a recipient that was denied
 unfoldable pub denied_text : ℕ → Address → ℕ → List ℕ
-denied_text line recipient place =
-    joined (decimal line ∷ codes " RCPT <" ∷ recipient.local ∷ codes "@" ∷ recipient.domain
-    ∷ codes "> deny smtpd_relay_restrictions[" ∷ decimal place ∷ codes "] reject_unauth_destination -" ∷ [])
+denied_text line recipient place = recipient_text line recipient ++ denial_text place
 
 -- what was decided of a recipient, with the number of the command's line
 abbrev pub entry_text : Entry → List ℕ

@@ -37,12 +37,12 @@ fn first_word(line: &[u8]) -> &[u8]
     &line[..word_end(line)]
 }
 
-fn behind_first_word(line: &[u8]) -> &[u8]
+fn after_first_word(line: &[u8]) -> &[u8]
     ensures { result.now ≡ after_first is_space line.now }
 {
     match &line[word_end(line)..] {
         [] => &[],
-        [_, behind @ ..] => behind,
+        [_, after @ ..] => after,
     }
 }
 
@@ -78,10 +78,10 @@ pub(crate) fn verb_of(line: &[u8]) -> Verb
 pub(crate) fn argument_of(line: &[u8]) -> &[u8]
     ensures { result.now ≡ command.argument_of line.now }
 {
-    trimmed(behind_first_word(line))
+    trimmed(after_first_word(line))
 }
 
-/// What stands behind a keyword, in any case, and space; None where the argument begins otherwise.
+/// What comes after a keyword, in any case, and space; None where the argument begins otherwise.
 #[tactic(auto, unfolding(crate::specs::Command::after_keyword))]
 pub(crate) fn after_keyword<'a>(keyword: &[u8], argument: &'a [u8]) -> Option<&'a [u8]>
     ensures { option_copied result ≡ command.after_keyword keyword.now argument.now }

@@ -3,18 +3,19 @@
 
 mod command;
 mod entry;
-mod machine;
 mod path;
+mod printing;
+mod progress;
 mod record_line;
 mod reply;
 mod session;
-mod standing;
 mod state;
+mod step;
 
 pub use entry::Entry;
-pub use path::Address;
+pub use path::{Address, AddressRef};
+pub use progress::{LineBuffer, Progress};
 pub use record_line::RecordLine;
 pub use reply::{HeloReply, LineReply, MailReply, QuitReply, RcptReply, Reply};
 pub use session::{Going, Session};
-pub use standing::{LineBuffer, Standing};
 pub use state::{Setup, State};

@@ -6,22 +6,60 @@ ghost use Rattle.pf_smtp.specs.Path as path;
 
 use pf_base::{Bytes, NoMemory, before_byte, behind_byte, is_host_name};
 use std::alloc::Global;
+use std::marker::Model;
 
-/// A mail address (RFC 5321, 4.1.2): what stands before its at sign, and what stands behind it, as they were given.
+/// A mail address (RFC 5321, 4.1.2): its local part, before the at sign, and its domain, after it, as they were given.
 #[derive(Debug, PartialEq, Eq, Drop)]
 pub struct Address {
     pub local: Bytes,
     pub domain: Bytes,
 }
 
-impl Address {
-    /// The same address again.
-    pub fn copy(&self, alloc: Global) -> Result<Address, NoMemory>
+/// An address that is in the line which it was read of. A contract sees the address.
+#[derive(Debug, Drop)]
+pub struct AddressRef<'a> {
+    local: &'a [u8],
+    domain: &'a [u8],
+}
+
+impl<'a> Model for AddressRef<'a> {
+    ghost use Rattle.pf_smtp.specs.declared.path.Address.{Address};
+
+    ghost Value = { Address };
+
+    ghost view = { λ address. record { local = address.local.now; domain = address.domain.now } };
+}
+
+impl<'a> AddressRef<'a> {
+    pub(crate) fn local(&self) -> &[u8]
+        ensures { result.now ≡ self.now.local }
+    {
+        self.local
+    }
+
+    pub(crate) fn domain(&self) -> &[u8]
+        ensures { result.now ≡ self.now.domain }
+    {
+        self.domain
+    }
+
+    /// The same address, in the same line.
+    pub(crate) fn again(&self) -> AddressRef<'a>
+        ensures { result ≡ self.now }
+    {
+        AddressRef {
+            local: self.local,
+            domain: self.domain,
+        }
+    }
+
+    /// A copy that does not need the line.
+    pub(crate) fn to_address(&self, alloc: Global) -> Result<Address, NoMemory>
         ensures { IfOk result (λ copy. copy ≡ self.now) }
     {
         Ok(Address {
-            local: self.local.copy(alloc)?,
-            domain: self.domain.copy(alloc)?,
+            local: Bytes::from_slice(alloc, self.local)?,
+            domain: Bytes::from_slice(alloc, self.domain)?,
         })
     }
 }
@@ -53,30 +91,25 @@ fn bracketed(text: &[u8]) -> Option<&[u8]>
     }
 }
 
-fn address_of(alloc: Global, text: &[u8]) -> Result<Option<Address>, NoMemory>
-    ensures { IfOk result (λ address. address ≡ path.address_of text.now) }
+fn address_of(text: &[u8]) -> Option<AddressRef<'_>>
+    ensures { result ≡ path.address_of text.now }
 {
     let local = before_byte(text, b'@');
     let domain = behind_byte(text, b'@');
     if is_local_part(local) && is_host_name(domain) {
-        let local = Bytes::from_slice(alloc, local)?;
-        let domain = Bytes::from_slice(alloc, domain)?;
-        Ok(Some(Address { local, domain }))
+        Some(AddressRef { local, domain })
     } else {
-        Ok(None)
+        None
     }
 }
 
 /// The address of a path; None where the text is no path.
 #[tactic(auto, unfolding(crate::specs::Path::path_of))]
-pub(crate) fn path_of(alloc: Global, text: &[u8]) -> Result<Option<Address>, NoMemory>
-    ensures { IfOk result (λ address. address ≡ path.path_of text.now) }
+pub(crate) fn path_of(text: &[u8]) -> Option<AddressRef<'_>>
+    ensures { result ≡ path.path_of text.now }
 {
     match bracketed(text) {
-        None => Ok(None),
-        Some(inside) => {
-            let address = address_of(alloc, inside)?;
-            Ok(address)
-        }
+        None => None,
+        Some(inside) => address_of(inside),
     }
 }

@@ -1,10 +1,11 @@
 //! The replies, an enum for each verb in the order of its checks, with their texts (RFC 5321, 4.2; RFC 3463).
 ghost use Rattle.std.specs.Prelude.{◌≡◌, ◌++◌, OnOk};
+ghost use Rattle.pf_base.specs.Printing.{printed};
 ghost use Rattle.pf_smtp.specs.Text as text;
 
-use crate::path::Address;
+use crate::path::AddressRef;
+use crate::printing::add_all_printed;
 use pf_base::{Bytes, NoMemory, add_printed};
-use std::alloc::Global;
 
 /// The replies to a line that is no command.
 #[derive(Clone, Copy, Debug, PartialEq, Eq)]
@@ -40,8 +41,8 @@ pub enum MailReply {
 }
 
 /// The replies to RCPT.
-#[derive(Debug, PartialEq, Eq, Drop)]
-pub enum RcptReply {
+#[derive(Debug, Drop)]
+pub enum RcptReply<'a> {
     /// No transaction is open.
     NeedMail,
     /// The argument does not begin with `TO:`.
@@ -49,7 +50,7 @@ pub enum RcptReply {
     /// What follows is no path.
     BadRecipient,
     /// The relay list denied this recipient.
-    RelayDenied(Address),
+    RelayDenied(AddressRef<'a>),
     /// The recipient was accepted.
     Taken,
 }
@@ -59,17 +60,17 @@ pub enum RcptReply {
 pub enum QuitReply {
     /// There is an argument.
     Syntax,
-    /// The session is over.
+    /// The session has ended.
     Bye,
 }
 
 /// A reply (RFC 5321, 4.2).
-#[derive(Debug, PartialEq, Eq, Drop)]
-pub enum Reply {
+#[derive(Debug, Drop)]
+pub enum Reply<'a> {
     Line(LineReply),
     Helo(HeloReply),
     Mail(MailReply),
-    Rcpt(RcptReply),
+    Rcpt(RcptReply<'a>),
     Quit(QuitReply),
 }
 
@@ -108,74 +109,73 @@ fn quit_text(reply: QuitReply) -> &'static [u8]
 
 #[tactic(auto, unfolding(crate::specs::Text::helo_text))]
 fn print_helo(reply: HeloReply, host: &[u8], sent: &mut Bytes) -> Result<(), NoMemory>
-    ensures { OnOk result (sent.new ≡ sent.old ++ text.helo_text host.now reply) }
+    ensures { OnOk result (sent.new ≡ sent.old ++ printed (text.helo_text host.now reply)) }
 {
     match reply {
-        HeloReply::NeedsName => sent.extend(b"501 5.5.4 Syntax: HELO hostname"),
-        HeloReply::Hello => sent.extend_all(&[b"250 ", host]),
+        HeloReply::NeedsName => add_printed(sent, b"501 5.5.4 Syntax: HELO hostname"),
+        HeloReply::Hello => add_all_printed(sent, &[b"250 ", host]),
     }
 }
 
 #[tactic(auto, unfolding(crate::specs::Text::relay_denied_text))]
-fn print_relay_denied(address: &Address, sent: &mut Bytes) -> Result<(), NoMemory>
-    ensures { OnOk result (sent.new ≡ sent.old ++ text.relay_denied_text address.now) }
+fn print_relay_denied(address: &AddressRef<'_>, sent: &mut Bytes) -> Result<(), NoMemory>
+    ensures { OnOk result (sent.new ≡ sent.old ++ printed (text.relay_denied_text address.now)) }
 {
-    sent.extend_all(&[
-        b"554 5.7.1 <",
-        address.local.as_slice(),
-        b"@",
-        address.domain.as_slice(),
-        b">: Relay access denied",
-    ])
+    add_all_printed(
+        sent,
+        &[
+            b"554 5.7.1 <",
+            address.local(),
+            b"@",
+            address.domain(),
+            b">: Relay access denied",
+        ],
+    )
 }
 
 #[tactic(auto, unfolding(crate::specs::Text::rcpt_text))]
-fn print_rcpt(reply: &RcptReply, sent: &mut Bytes) -> Result<(), NoMemory>
-    ensures { OnOk result (sent.new ≡ sent.old ++ text.rcpt_text reply.now) }
+fn print_rcpt(reply: &RcptReply<'_>, sent: &mut Bytes) -> Result<(), NoMemory>
+    ensures { OnOk result (sent.new ≡ sent.old ++ printed (text.rcpt_text reply.now)) }
 {
     match reply {
-        RcptReply::NeedMail => sent.extend(b"503 5.5.1 Error: need MAIL command"),
-        RcptReply::Syntax => sent.extend(b"501 5.5.4 Syntax: RCPT TO:<address>"),
-        RcptReply::BadRecipient => sent.extend(b"501 5.1.3 Bad recipient address syntax"),
+        RcptReply::NeedMail => add_printed(sent, b"503 5.5.1 Error: need MAIL command"),
+        RcptReply::Syntax => add_printed(sent, b"501 5.5.4 Syntax: RCPT TO:<address>"),
+        RcptReply::BadRecipient => add_printed(sent, b"501 5.1.3 Bad recipient address syntax"),
         RcptReply::RelayDenied(address) => print_relay_denied(address, sent),
-        RcptReply::Taken => sent.extend(b"250 2.1.5 Ok"),
+        RcptReply::Taken => add_printed(sent, b"250 2.1.5 Ok"),
     }
 }
 
-impl Reply {
-    // Adds the reply without its line end.
+impl<'a> Reply<'a> {
+    // Adds the reply, control bytes as question marks, without its line end.
     fn print_text(&self, host: &[u8], sent: &mut Bytes) -> Result<(), NoMemory>
-        ensures { OnOk result (sent.new ≡ sent.old ++ text.reply_text host.now self.now) }
+        ensures { OnOk result (sent.new ≡ sent.old ++ printed (text.reply_text host.now self.now)) }
     {
         match self {
-            Reply::Line(reply) => sent.extend(line_text(*reply)),
+            Reply::Line(reply) => add_printed(sent, line_text(*reply)),
             Reply::Helo(reply) => print_helo(*reply, host, sent),
-            Reply::Mail(reply) => sent.extend(mail_text(*reply)),
+            Reply::Mail(reply) => add_printed(sent, mail_text(*reply)),
             Reply::Rcpt(reply) => print_rcpt(reply, sent),
-            Reply::Quit(reply) => sent.extend(quit_text(*reply)),
+            Reply::Quit(reply) => add_printed(sent, quit_text(*reply)),
         }
     }
 
     /// Adds the reply as it is sent, control bytes as question marks, with its line end; `host` is the server's name.
     #[tactic(auto, unfolding(crate::specs::Text::text_of))]
-    pub(crate) fn print(&self, alloc: Global, host: &[u8], sent: &mut Bytes) -> Result<(), NoMemory>
+    pub(crate) fn print(&self, host: &[u8], sent: &mut Bytes) -> Result<(), NoMemory>
         ensures { OnOk result (sent.new ≡ sent.old ++ text.text_of host.now self.now) }
     {
-        let mut text = Bytes::new(alloc);
-        self.print_text(host, &mut text)?;
-        add_printed(sent, text.as_slice())?;
+        self.print_text(host, sent)?;
         sent.extend(b"\r\n")
     }
 }
 
-/// Adds what the server says first, control bytes as question marks, with its line end; `banner` is what stands behind the code
+/// Adds what the server says first, control bytes as question marks, with its line end; `banner` is its text after the code
 /// (postconf(5), smtpd_banner).
 #[tactic(auto, unfolding(crate::specs::Text::greeting_of))]
-pub(crate) fn print_greeting(alloc: Global, banner: &[u8], sent: &mut Bytes) -> Result<(), NoMemory>
+pub(crate) fn print_greeting(banner: &[u8], sent: &mut Bytes) -> Result<(), NoMemory>
     ensures { OnOk result (sent.new ≡ sent.old ++ text.greeting_of banner.now) }
 {
-    let mut text = Bytes::new(alloc);
-    text.extend_all(&[b"220 ", banner])?;
-    add_printed(sent, text.as_slice())?;
+    add_all_printed(sent, &[b"220 ", banner])?;
     sent.extend(b"\r\n")
 }

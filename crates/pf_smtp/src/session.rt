@@ -1,33 +1,43 @@
 //! The session, as the layer above drives it.
-ghost use Rattle.std.specs.Prelude.{◌≡◌, true, false, Ok, IfErr, IfOk, OnErr, OnOk};
+ghost use Rattle.std.specs.Prelude.{◌≡◌, [], true, false, Ok, IfErr, IfOk, OnErr, OnOk};
 ghost use Rattle.pf_base.specs.Objects.{Says, StopsBy, out_text, sinks};
 ghost use Rattle.pf_base.specs.Told.{Output};
 ghost use Rattle.pf_smtp.specs.Clauses.Feeding.{Took, fresh, going_of, texts_given};
 ghost use Rattle.pf_smtp.specs.Text.{greeting_of};
 
+use crate::progress::{LineBuffer, Progress};
 use crate::reply::print_greeting;
-use crate::standing::{LineBuffer, Standing};
 use crate::state::{Setup, State};
 use pf_base::{Bytes, Sink, SinkFault, Texts, write_out, write_texts};
 use pf_eval::PlainPolicy;
 use std::alloc::Global;
 use std::marker::Model;
 
-/// Whether a session goes on. It is over once a QUIT was answered with 221 (RFC 5321, 4.1.1.10), or a fault came.
+/// Whether a session goes on. It has ended once a QUIT was answered with 221 (RFC 5321, 4.1.1.10), or a fault came.
 #[derive(Clone, Copy, Debug, PartialEq, Eq)]
 pub enum Going {
     /// It takes more input.
     More,
-    /// It is over.
-    Over,
+    /// It has ended.
+    Ended,
 }
 
-impl Standing {
-    // Answers a piece.
+// Lets the texts go, and keeps their room.
+fn clear(texts: &mut Texts)
+    ensures { texts.new ≡ record { out = []; mail = []; log = [] } }
+{
+    texts.out.clear();
+    texts.mail.clear();
+    texts.log.clear();
+}
+
+impl Progress {
+    // Answers a piece. What it gives is gathered in the room of the texts, which may hold what an earlier piece gave.
     fn answer<O: Sink, M: Sink, J: Sink>(
         &mut self,
         alloc: Global,
         piece: &[u8],
+        texts: &mut Texts,
         out: &mut O,
         mail: &mut M,
         log: &mut J,
@@ -38,11 +48,11 @@ impl Standing {
             (sinks (O.told out.new) (M.told mail.new) (J.told log.new)) (texts_given self.old piece.now)) }
         ensures mail { M.told mail.new ≡ M.told mail.old }
     {
-        let mut texts = Texts::new(alloc);
-        let Ok(()) = self.take_piece(alloc, piece, &mut texts) else {
+        clear(texts);
+        let Ok(()) = self.take_piece(alloc, piece, texts) else {
             return Err(SinkFault::NoMemory);
         };
-        write_texts(&texts, out, mail, log)
+        write_texts(texts, out, mail, log)
     }
 
     fn greet<O: Sink>(&self, alloc: Global, out: &mut O) -> Result<(), SinkFault>
@@ -50,7 +60,7 @@ impl Standing {
             (out_text (greeting_of self.now.setup.banner)) result }
     {
         let mut text = Bytes::new(alloc);
-        let Ok(()) = print_greeting(alloc, self.setup.banner.as_slice(), &mut text) else {
+        let Ok(()) = print_greeting(self.setup.banner.as_slice(), &mut text) else {
             return Err(SinkFault::NoMemory);
         };
         write_out(out, text.as_slice())
@@ -61,15 +71,17 @@ impl Standing {
 #[derive(Debug, Drop)]
 pub struct Session {
     begun: bool,
-    standing: Standing,
+    progress: Progress,
+    // What the last piece gave: its room is used for the next one.
+    texts: Texts,
 }
 
 impl Model for Session {
-    ghost use Rattle.pf_smtp.specs.Clauses.Feeding.{Progress};
+    ghost use Rattle.pf_smtp.specs.Clauses.Feeding.{SessionState};
 
-    ghost Value = { Progress };
+    ghost Value = { SessionState };
 
-    ghost view = { λ session. record { begun = session.begun; standing = session.standing } };
+    ghost view = { λ session. record { begun = session.begun; progress = session.progress } };
 }
 
 impl Session {
@@ -82,11 +94,11 @@ impl Session {
         policy: PlainPolicy,
         client: u32,
     ) -> Session
-        ensures { result ≡ record { begun = false; standing = fresh (record { host = host; banner = banner; policy = policy; client = client }) } }
+        ensures { result ≡ record { begun = false; progress = fresh (record { host = host; banner = banner; policy = policy; client = client }) } }
     {
         Session {
             begun: false,
-            standing: Standing {
+            progress: Progress {
                 setup: Setup {
                     host,
                     banner,
@@ -96,36 +108,38 @@ impl Session {
                 state: State {
                     line: 0,
                     sender: None,
-                    over: false,
+                    ended: false,
                 },
-                part: LineBuffer::new(alloc),
+                partial: LineBuffer::new(alloc),
             },
+            texts: Texts::new(alloc),
         }
     }
 
-    /// Says the greeting, which is the banner behind its code (postconf(5), smtpd_banner; RFC 5321, 4.2), once and first. After
-    /// a fault a front of it was written, and the session is over.
+    /// Says the greeting, which is the banner after its code (postconf(5), smtpd_banner; RFC 5321, 4.2), once and first. After
+    /// a fault a prefix of it was written, and the session has ended.
     pub fn greet<O: Sink>(&mut self, alloc: Global, out: &mut O) -> Result<(), SinkFault>
         requires { self.old.begun ≡ false }
         ensures says { (mail log : Output) → Says (sinks (O.told out.old) mail log) (sinks (O.told out.new) mail log)
-            (out_text (greeting_of self.old.standing.setup.banner)) result }
+            (out_text (greeting_of self.old.progress.setup.banner)) result }
         ensures begun { self.new.begun ≡ true }
-        ensures same { OnOk result (self.new.standing ≡ self.old.standing) }
-        ensures over { OnErr result (self.new.standing.state.over ≡ true) }
+        ensures same { OnOk result (self.new.progress ≡ self.old.progress) }
+        ensures ended { OnErr result (self.new.progress.state.ended ≡ true) }
     {
         self.begun = true;
-        match self.standing.greet(alloc, out) {
+        match self.progress.greet(alloc, out) {
             Ok(()) => Ok(()),
             Err(fault) => {
-                self.standing.state.over = true;
+                self.progress.state.ended = true;
                 Err(fault)
             }
         }
     }
 
-    /// Takes the next piece of the input, of any size, behind the greeting, and answers the lines that end in it: the record lines
-    /// first, then the log lines, then the replies. After a fault a front of them was written, nothing to a sink behind the one that
-    /// failed, and the session is over. Once it is over, it writes nothing and answers `Over`. No verb of today gives a record line.
+    /// Takes the next piece of the input, of any size, after the greeting, and answers the lines that end in it: the record lines
+    /// first, then the log lines, then the replies. After a fault a prefix of them was written, nothing to a sink after the one that
+    /// failed, and the session has ended. A session that has ended writes nothing and answers `Ended`. No verb of today gives a
+    /// record line.
     pub fn feed<O: Sink, M: Sink, J: Sink>(
         &mut self,
         alloc: Global,
@@ -136,28 +150,31 @@ impl Session {
     ) -> Result<Going, SinkFault>
         requires { self.old.begun ≡ true }
         ensures took { OnOk result (Took (sinks (O.told out.old) (M.told mail.old) (J.told log.old))
-            (sinks (O.told out.new) (M.told mail.new) (J.told log.new)) self.old.standing self.new.standing piece.now) }
+            (sinks (O.told out.new) (M.told mail.new) (J.told log.new)) self.old.progress self.new.progress piece.now) }
         ensures stops { IfErr result (λ fault. StopsBy fault (sinks (O.told out.old) (M.told mail.old) (J.told log.old))
-            (sinks (O.told out.new) (M.told mail.new) (J.told log.new)) (texts_given self.old.standing piece.now)) }
+            (sinks (O.told out.new) (M.told mail.new) (J.told log.new)) (texts_given self.old.progress piece.now)) }
         ensures mail { M.told mail.new ≡ M.told mail.old }
         ensures begun { self.new.begun ≡ true }
-        ensures going { IfOk result (λ going. going ≡ going_of self.new.standing.state) }
-        ensures over { OnErr result (self.new.standing.state.over ≡ true) }
-        ensures silent { self.old.standing.state.over ≡ true → result ≡ Ok Going.Over }
+        ensures going { IfOk result (λ going. going ≡ going_of self.new.progress.state) }
+        ensures ended { OnErr result (self.new.progress.state.ended ≡ true) }
+        ensures silent { self.old.progress.state.ended ≡ true → result ≡ Ok Going.Ended }
     {
-        if self.standing.state.over {
-            return Ok(Going::Over);
+        if self.progress.state.ended {
+            return Ok(Going::Ended);
         }
-        match self.standing.answer(alloc, piece, out, mail, log) {
+        match self
+            .progress
+            .answer(alloc, piece, &mut self.texts, out, mail, log)
+        {
             Ok(()) => {
-                if self.standing.state.over {
-                    Ok(Going::Over)
+                if self.progress.state.ended {
+                    Ok(Going::Ended)
                 } else {
                     Ok(Going::More)
                 }
             }
             Err(fault) => {
-                self.standing.state.over = true;
+                self.progress.state.ended = true;
                 Err(fault)
             }
         }

@@ -1,13 +1,12 @@
 //! The state of a session, what it is set up with, and what a line gives.
 use crate::entry::Entry;
 use crate::path::Address;
-use crate::record_line::RecordLine;
 use crate::reply::Reply;
-use pf_base::{Bytes, List};
+use pf_base::Bytes;
 use pf_eval::PlainPolicy;
 
 /// The server's name, its banner, its policy, and the client's IPv4 address, whose first number is its highest byte. The banner
-/// is the bytes that the greeting has between its code with a space and its line end (postconf(5), smtpd_banner).
+/// is the bytes of the greeting between its code with a space and its line end (postconf(5), smtpd_banner).
 #[derive(Debug, Drop)]
 pub struct Setup {
     pub host: Bytes,
@@ -17,18 +16,17 @@ pub struct Setup {
 }
 
 /// How many lines there were, which stays at the greatest u64 once it is there, the sender of the transaction that is open,
-/// and whether the session is over.
+/// and whether the session has ended.
 #[derive(Debug, PartialEq, Eq, Drop)]
 pub struct State {
     pub line: u64,
     pub sender: Option<Address>,
-    pub over: bool,
+    pub ended: bool,
 }
 
-/// What a line gives.
+/// What a line gives: a reply, and the log line of a recipient that was judged. No verb of today gives a record line.
 #[derive(Drop)]
-pub(crate) struct Answer {
-    pub(crate) replies: List<Reply>,
-    pub(crate) records: List<RecordLine>,
-    pub(crate) entries: List<Entry>,
+pub(crate) struct Answer<'a> {
+    pub(crate) reply: Reply<'a>,
+    pub(crate) entry: Option<Entry<'a>>,
 }

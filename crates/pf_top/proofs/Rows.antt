@@ -26,7 +26,7 @@ use Rattle.pf_smtp.specs.Command.{after_keyword, verb_of}
 use Rattle.pf_smtp.specs.Path.{path_of}
 use Rattle.pf_smtp.specs.Session.{steps}
 use Rattle.pf_smtp.specs.Step.{command, step}
-use Rattle.pf_smtp.specs.Text.{accepted_text, denied_text, greeting_of, helo_text, log_line, mail_text, quit_text, rcpt_text, relay_denied_text, text_of}
+use Rattle.pf_smtp.specs.Text.{accepted_text, denial_text, denied_text, greeting_of, helo_text, log_line, mail_text, quit_text, rcpt_text, recipient_text, relay_denied_text, text_of}
 use Rattle.pf_tools.specs.Course.{bytes_in, failed_line}
 use Rattle.pf_top.specs.Nets.{net_of, net_with}
 use Rattle.pf_top.specs.Opening.{opening_of, reading_named, setup_of}
@@ -231,7 +231,7 @@ texts_for_an_own_client : spoken 167838211 talked ≡ record {
   mail = [];
   log = codes "3 RCPT <joe@other.test> accept\n";
 }
-unfolding greeting_of steps step command verb_of after_keyword path_of end_of text_of helo_text mail_text rcpt_text quit_text log_line printed_line accepted_text digits lines
+unfolding greeting_of steps step command verb_of after_keyword path_of end_of text_of helo_text mail_text rcpt_text quit_text log_line printed_line accepted_text recipient_text digits lines
 texts_for_an_own_client = refl
 
 texts_for_a_stranger : spoken 3221225993 talked ≡ record {
@@ -240,7 +240,7 @@ texts_for_a_stranger : spoken 3221225993 talked ≡ record {
   mail = [];
   log = codes "3 RCPT <joe@other.test> deny smtpd_relay_restrictions[2] reject_unauth_destination -\n";
 }
-unfolding greeting_of steps step command verb_of after_keyword path_of end_of text_of helo_text mail_text rcpt_text relay_denied_text quit_text log_line printed_line denied_text digits lines
+unfolding greeting_of steps step command verb_of after_keyword path_of end_of text_of helo_text mail_text rcpt_text relay_denied_text quit_text log_line printed_line denied_text recipient_text denial_text digits lines
 texts_for_a_stranger = refl
 
 over_behind_quit : map (speech_of (setup_of site 167838211)).over (talked ∷ codes "HELO c.test\r\nQUIT" ∷ [] ∷ []) ≡ true ∷ false ∷ false ∷ []

@@ -15,8 +15,8 @@ use Rattle.pf_smtp.specs.Clauses.Feeding.{fresh, given, texts_given}
 use Rattle.pf_smtp.specs.Session.{session, start, steps, texts_of}
 use Rattle.pf_smtp.specs.Step.{Step}
 use Rattle.pf_smtp.specs.Text.{greeting_of}
-use Rattle.pf_smtp.specs.declared.session.Going.TheVariants.{More, Over}
-use Rattle.pf_smtp.specs.declared.standing.Standing.{Standing}
+use Rattle.pf_smtp.specs.declared.session.Going.TheVariants as goes
+use Rattle.pf_smtp.specs.declared.progress.Progress.{Progress}
 use Rattle.pf_smtp.specs.declared.state.Setup.{Setup}
 use Rattle.pf_top.specs.Talk.{EndsAs, HasSession, Speech, Talked, Talks, TalksCut, TalksShort, TalksUntil, speech_of}
 use Rattle.pf_top.specs.Clauses.Turns.{IsTurn, Passed, Stops, speech_from}
@@ -25,11 +25,11 @@ use Rattle.pf_top.specs.declared.talk.Ended.TheVariants as ended
 use Rattle.pf_top.specs.declared.talk.TalkFault.{TalkFault}
 use Rattle.pf_top.specs.declared.talk.TalkFault.TheVariants as fault
 
-pub going_more : (b : Bool) → More ≡ (if b then Over else More) → b ≡ false
+pub going_more : (b : Bool) → goes.More ≡ (if b then goes.Ended else goes.More) → b ≡ false
 going_more true e = cc
 going_more false e = refl
 
-pub going_over : (b : Bool) → Over ≡ (if b then Over else More) → b ≡ true
+pub going_over : (b : Bool) → goes.Ended ≡ (if b then goes.Ended else goes.More) → b ≡ true
 going_over true e = refl
 going_over false e = cc
 
@@ -37,7 +37,7 @@ going_over false e = cc
 pub passed_none : (w : Streams) (setup : Setup) → Passed w w (fresh setup) (fresh setup) 0
 passed_none w setup = record { taken = []; is = refl; input = takes_none w.input; took = took_none w.sinks setup }
 
-pub passed_more : {a b c : Streams} {s t u : Standing} {m n : ℕ} → Passed a b s t m → Passed b c t u n → Passed a c s u (m + n)
+pub passed_more : {a b c : Streams} {s t u : Progress} {m n : ℕ} → Passed a b s t m → Passed b c t u n → Passed a c s u (m + n)
 passed_more {m = m} {n = n} p q = record {
   taken = p.taken ++ q.taken;
   is = length-append p.taken q.taken ∙ omega (arith, p.is, q.is);
@@ -46,11 +46,11 @@ passed_more {m = m} {n = n} p q = record {
 }
 
 -- whether it is over behind what has passed
-over_is : {a b : Streams} {s t : Standing} {n : ℕ} (p : Passed a b s t n) → (given s p.taken).next.over ≡ t.state.over
-over_is p = ap (λ x. x.over) (sym p.took.state)
+over_is : {a b : Streams} {s t : Progress} {n : ℕ} (p : Passed a b s t n) → (given s p.taken).next.ended ≡ t.state.ended
+over_is p = ap (λ x. x.ended) (sym p.took.state)
 
 -- a read found the end before the budget was taken
-pub ends_here : {a b now : Streams} {s t : Standing} {n budget : ℕ} → now ≡ record b { input = found_end b.input } → IsAtEnd b.input.left → t.state.over ≡ false
+pub ends_here : {a b now : Streams} {s t : Progress} {n budget : ℕ} → now ≡ record b { input = found_end b.input } → IsAtEnd b.input.left → t.state.ended ≡ false
     → Passed a b s t n → n < budget → TalksUntil (speech_from s) budget a now ended.AtEnd
 ends_here {b = b} found at going p less = record {
   taken = p.taken;
@@ -60,7 +60,7 @@ ends_here {b = b} found at going p less = record {
 }
 
 -- the session is over with a piece
-pub over_here : {a b c : Streams} {s t u : Standing} {m n : ℕ} (budget : ℕ) → t.state.over ≡ false → u.state.over ≡ true → Passed a b s t m → Passed b c t u n → n ≤ 4096 → m + n ≤ budget
+pub over_here : {a b c : Streams} {s t u : Progress} {m n : ℕ} (budget : ℕ) → t.state.ended ≡ false → u.state.ended ≡ true → Passed a b s t m → Passed b c t u n → n ≤ 4096 → m + n ≤ budget
     → TalksUntil (speech_from s) budget a c ended.AtOver
 over_here {c = c} budget going over p q few within = record {
   taken = p.taken ++ q.taken;
@@ -68,14 +68,14 @@ over_here {c = c} budget going over p q few within = record {
   talks = record { input = takes_more p.input q.input; sinks = (took_more p.took q.took).sinks };
   ends = (
     refl,
-    ap (λ x. x.over) (sym (took_more p.took q.took).state) ∙ over,
+    ap (λ x. x.ended) (sym (took_more p.took q.took).state) ∙ over,
     omega (arith, length-append p.taken q.taken, p.is, q.is, within),
     record { earlier = p.taken; piece = q.taken; parts = refl; few = omega (arith, q.is, few); going = over_is p ∙ going },
   );
 }
 
 -- the budget was taken
-pub budget_here : {a b : Streams} {s t : Standing} {n budget : ℕ} → t.state.over ≡ false → Passed a b s t n → n ≡ budget → TalksUntil (speech_from s) budget a b ended.AtBudget
+pub budget_here : {a b : Streams} {s t : Progress} {n budget : ℕ} → t.state.ended ≡ false → Passed a b s t n → n ≡ budget → TalksUntil (speech_from s) budget a b ended.AtBudget
 budget_here {b = b} going p all = record {
   taken = p.taken;
   mid = b;
@@ -84,7 +84,7 @@ budget_here {b = b} going p all = record {
 }
 
 -- a read failed before the budget was taken
-pub short_here : {a b now : Streams} {s t : Standing} {n budget : ℕ} → now ≡ record b { input = failed_input b.input } → t.state.over ≡ false → Passed a b s t n → n < budget
+pub short_here : {a b now : Streams} {s t : Progress} {n budget : ℕ} → now ≡ record b { input = failed_input b.input } → t.state.ended ≡ false → Passed a b s t n → n < budget
     → TalksShort (speech_from s) budget a now
 short_here {b = b} broken going p less = record {
   taken = p.taken;
@@ -96,7 +96,7 @@ short_here {b = b} broken going p less = record {
 }
 
 -- a fault came with a piece
-pub cut_here : {a b now : Streams} {s t : Standing} {n most budget : ℕ} {why : SinkFault} → t.state.over ≡ false → Passed a b s t n → Stops b now t most why → most ≤ 4096 → n + most ≤ budget
+pub cut_here : {a b now : Streams} {s t : Progress} {n most budget : ℕ} {why : SinkFault} → t.state.ended ≡ false → Passed a b s t n → Stops b now t most why → most ≤ 4096 → n + most ≤ budget
     → TalksCut (speech_from s) budget a now why
 cut_here {b = b} {t = t} going p stops few within = record {
   earlier = p.taken;
@@ -113,7 +113,7 @@ cut_here {b = b} {t = t} going p stops few within = record {
 }
 
 -- either fault of a turn
-pub talked_fault : {a b : Streams} {s t : Standing} {n most budget : ℕ} (now : Streams) (u : Standing) (why : TalkFault) → t.state.over ≡ false → Passed a b s t n
+pub talked_fault : {a b : Streams} {s t : Progress} {n most budget : ℕ} (now : Streams) (u : Progress) (why : TalkFault) → t.state.ended ≡ false → Passed a b s t n
     → IsTurn b now t u most (Err why) → n < budget → most ≤ 4096 → n + most ≤ budget → Talked (speech_from s) budget a now (Err why)
 talked_fault now u fault.Input going p turn less few within = short_here turn.0 going p less
 talked_fault now u (fault.Sink why) going p turn less few within = cut_here going p turn few within
@@ -162,10 +162,10 @@ greeting setup = out_text (greeting_of setup.banner)
 
 speech_is : (setup : Setup) → behind (greeting setup) (speech_from (fresh setup)) ≡ speech_of setup
 speech_is setup =
-    ap (λ (g : List ℕ → Step). record { said = λ taken. joined (greeting setup) (texts_of setup (g taken)); over = λ taken. (g taken).next.over }) (fun_ext (given_fresh setup))
+    ap (λ (g : List ℕ → Step). record { said = λ taken. joined (greeting setup) (texts_of setup (g taken)); over = λ taken. (g taken).next.ended }) (fun_ext (given_fresh setup))
 
 -- the greeting, and then what is said from the start on, are a session
-pub has_session : (setup : Setup) (budget : ℕ) (before now : Streams) {mid : Streams} {s : Standing} (result : Result Ended TalkFault) → mid ≡ record before { sinks = appended before.sinks (greeting setup) }
+pub has_session : (setup : Setup) (budget : ℕ) (before now : Streams) {mid : Streams} {s : Progress} (result : Result Ended TalkFault) → mid ≡ record before { sinks = appended before.sinks (greeting setup) }
     → s ≡ fresh setup → Talked (speech_from s) budget mid now result → HasSession setup budget before now result
 has_session setup budget before now {mid} result greeted begins talked =
     let from_start = subst (λ x. Talked (speech_from x) budget mid now result) begins talked in

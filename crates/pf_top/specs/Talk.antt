@@ -23,7 +23,7 @@ pub record Speech : Type 0 where
 abbrev pub speech_of : Setup → Speech
 speech_of setup = record {
   said = λ taken. joined (out_text (greeting_of setup.banner)) (texts_of setup (session setup taken));
-  over = λ taken. (session setup taken).next.over;
+  over = λ taken. (session setup taken).next.ended;
 }
 
 -- the bytes were taken, and all was written that is said for them

@@ -50,7 +50,7 @@ fn take_turn<S: Source, O: Sink, M: Sink, J: Sink>(
     requires room { 0 < length buf.old }
     requires begun { session.old.begun ≡ true }
     ensures turn { IsTurn (streams (S.told input.old) (sinks (O.told out.old) (M.told mail.old) (J.told log.old)))
-        (streams (S.told input.new) (sinks (O.told out.new) (M.told mail.new) (J.told log.new))) session.old.standing session.new.standing (length buf.old) result }
+        (streams (S.told input.new) (sinks (O.told out.new) (M.told mail.new) (J.told log.new))) session.old.progress session.new.progress (length buf.old) result }
     ensures begun { session.new.begun ≡ true }
 {
     let Ok(count) = input.read(buf) else {
@@ -61,7 +61,7 @@ fn take_turn<S: Source, O: Sink, M: Sink, J: Sink>(
     }
     match session.feed(alloc, &buf[..count], out, mail, log) {
         Ok(Going::More) => Ok(Turn::More(count as u64)),
-        Ok(Going::Over) => Ok(Turn::Over(count as u64)),
+        Ok(Going::Ended) => Ok(Turn::Over(count as u64)),
         Err(fault) => Err(TalkFault::Sink(fault)),
     }
 }
@@ -77,8 +77,8 @@ fn serve<S: Source, O: Sink, M: Sink, J: Sink>(
     log: &mut J,
 ) -> Result<Ended, TalkFault>
     requires begun { session.old.begun ≡ true }
-    requires starts { session.old.standing ≡ fresh session.old.standing.setup }
-    ensures { Talked (speech_from session.old.standing) budget
+    requires starts { session.old.progress ≡ fresh session.old.progress.setup }
+    ensures { Talked (speech_from session.old.progress) budget
         (streams (S.told input.old) (sinks (O.told out.old) (M.told mail.old) (J.told log.old)))
         (streams (S.told input.new) (sinks (O.told out.new) (M.told mail.new) (J.told log.new))) result }
 {

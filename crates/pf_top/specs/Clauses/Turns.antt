@@ -5,7 +5,7 @@ use Rattle.pf_base.specs.Objects.{Streams, StopsBy}
 use Rattle.pf_base.specs.Told.{Takes, failed_input, found_end}
 use Rattle.pf_base.specs.declared.texts.SinkFault.{SinkFault}
 use Rattle.pf_smtp.specs.Clauses.Feeding.{Took, given, texts_given}
-use Rattle.pf_smtp.specs.declared.standing.Standing.{Standing}
+use Rattle.pf_smtp.specs.declared.progress.Progress.{Progress}
 use Rattle.pf_top.specs.Talk.{Speech}
 use Rattle.pf_top.specs.declared.talk.TalkFault.{TalkFault}
 use Rattle.pf_top.specs.declared.talk.TalkFault.TheVariants as fault
@@ -13,27 +13,27 @@ use Rattle.pf_top.specs.declared.talk.Turn.{Turn}
 use Rattle.pf_top.specs.declared.talk.Turn.TheVariants as turn
 
 -- what is said from where a session stands
-abbrev pub speech_from : Standing → Speech
-speech_from standing = record { said = λ taken. texts_given standing taken; over = λ taken. (given standing taken).next.over }
+abbrev pub speech_from : Progress → Speech
+speech_from progress = record { said = λ taken. texts_given progress taken; over = λ taken. (given progress taken).next.ended }
 
 -- so many bytes passed from the input to the session
-pub record Passed (before now : Streams) (old new : Standing) (count : ℕ) : Type 0 where
+pub record Passed (before now : Streams) (old new : Progress) (count : ℕ) : Type 0 where
   pub taken : List ℕ
   pub is : length taken ≡ count
   pub input : Takes before.input now.input taken
   pub took : Took before.sinks now.sinks old new taken
 
 -- a piece of at most so many bytes was taken, and a fault came while what it gives was written
-pub record Stops (before now : Streams) (old : Standing) (most : ℕ) (why : SinkFault) : Type 0 where
+pub record Stops (before now : Streams) (old : Progress) (most : ℕ) (why : SinkFault) : Type 0 where
   pub piece : List ℕ
   pub few : length piece ≤ most
   pub input : Takes before.input now.input piece
   pub stops : StopsBy why before.sinks now.sinks (texts_given old piece)
 
 -- a read of at most so many bytes, and what the session made of it
-abbrev pub IsTurn : Streams → Streams → Standing → Standing → ℕ → Result Turn TalkFault → Type 0
+abbrev pub IsTurn : Streams → Streams → Progress → Progress → ℕ → Result Turn TalkFault → Type 0
 IsTurn before now old new most (Ok turn.End) = (now ≡ record before { input = found_end before.input }) × (new ≡ old) × IsAtEnd before.input.left
-IsTurn before now old new most (Ok (turn.More count)) = Passed before now old new count × (0 < count) × (count ≤ most) × (new.state.over ≡ false)
-IsTurn before now old new most (Ok (turn.Over count)) = Passed before now old new count × (count ≤ most) × (new.state.over ≡ true)
+IsTurn before now old new most (Ok (turn.More count)) = Passed before now old new count × (0 < count) × (count ≤ most) × (new.state.ended ≡ false)
+IsTurn before now old new most (Ok (turn.Over count)) = Passed before now old new count × (count ≤ most) × (new.state.ended ≡ true)
 IsTurn before now old new most (Err fault.Input) = (now ≡ record before { input = failed_input before.input }) × (new ≡ old)
 IsTurn before now old new most (Err (fault.Sink why)) = Stops before now old most why

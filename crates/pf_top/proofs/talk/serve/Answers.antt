@@ -5,9 +5,9 @@ use Rattle.pf_top.proofs.talk.serve.Goals as goal
 
 pub turns-init : goal.turns-init
 turns-init g c = record {
-  passed = rw c.requires.starts (passed_none (streams (g.S.Source.told c.args.input.now) (sinks (g.O.Sink.told c.args.out.now) (g.M.Sink.told c.args.mail.now) (g.J.Sink.told c.args.log.now))) c.args.session.now.standing.setup);
+  passed = rw c.requires.starts (passed_none (streams (g.S.Source.told c.args.input.now) (sinks (g.O.Sink.told c.args.out.now) (g.M.Sink.told c.args.mail.now) (g.J.Sink.told c.args.log.now))) c.args.session.now.progress.setup);
   begun = c.requires.begun;
-  going = ap (λ s. s.state.over) c.requires.starts;
+  going = ap (λ s. s.state.ended) c.requires.starts;
   within = omega arith;
 }
 

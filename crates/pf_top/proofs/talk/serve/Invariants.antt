@@ -6,9 +6,9 @@ use Rattle.pf_top.proofs.talk.serve.Given as goal
 abbrev pub invariant-turns : goal.invariant-turns
 invariant-turns g l = record {
   passed : Passed (streams (g.S.Source.told l.initial.input) (sinks (g.O.Sink.told l.initial.out) (g.M.Sink.told l.initial.mail) (g.J.Sink.told l.initial.log)))
-      (streams (g.S.Source.told l.input) (sinks (g.O.Sink.told l.out) (g.M.Sink.told l.mail) (g.J.Sink.told l.log))) l.initial.session.standing l.session.standing l.taken;
+      (streams (g.S.Source.told l.input) (sinks (g.O.Sink.told l.out) (g.M.Sink.told l.mail) (g.J.Sink.told l.log))) l.initial.session.progress l.session.progress l.taken;
   begun : l.session.begun ≡ true;
-  going : l.session.standing.state.over ≡ false;
+  going : l.session.progress.state.ended ≡ false;
   within : l.taken ≤ l.budget;
 }
 

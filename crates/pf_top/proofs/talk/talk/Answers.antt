@@ -7,7 +7,7 @@ use Rattle.pf_top.proofs.talk.talk.Goals as goal
 pub returns-in-Ok : goal.returns-in-Ok
 returns-in-Ok g c =
     let says = rw c.new-session.ensures at (c.in-Ok.ensures.says (g.M.Sink.told c.args.mail.now) (g.J.Sink.told c.args.log.now)) in
-    let begins = c.in-Ok.ensures.same ∙ ap (λ s. s.standing) c.new-session.ensures in
+    let begins = c.in-Ok.ensures.same ∙ ap (λ s. s.progress) c.new-session.ensures in
     has_session (setup_of c.args.opening c.args.client) c.args.budget _ _ c.serve.result (ap (λ s. streams (g.S.Source.told c.args.input.now) s) says) begins c.serve.ensures
 
 pub returns : goal.returns

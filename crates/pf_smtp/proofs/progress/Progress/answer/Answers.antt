@@ -2,11 +2,11 @@ use Rattle.std.proofs.Common.{ap}
 use Rattle.pf_base.proofs.StatusLemmas.{said_record}
 use Rattle.pf_base.specs.Objects.{sinks}
 use Rattle.pf_smtp.proofs.PieceLemmas.{no_record}
-use Rattle.pf_smtp.proofs.standing.Standing.answer.Goals as goal
+use Rattle.pf_smtp.proofs.progress.Progress.answer.Goals as goal
 
 pub returns-clause-mail : goal.returns-clause-mail
 returns-clause-mail g c =
-    let none = no_record (ap (λ t. t.mail) c.new-texts.ensures) c.in-Ok.ensures in
+    let none = no_record (ap (λ t. t.mail) c.clear.ensures) c.in-Ok.ensures in
     said_record (sinks (g.O.Sink.told c.args.out.now) (g.M.Sink.told c.args.mail.now) (g.J.Sink.told c.args.log.now))
     (sinks (g.O.Sink.told c.write_texts.new.out) (g.M.Sink.told c.write_texts.new.mail) (g.J.Sink.told c.write_texts.new.log))
     c.take_piece.new.texts c.write_texts.result none c.write_texts.ensures

@@ -1,6 +1,0 @@
-use Rattle.pf_smtp.proofs.PieceLemmas.{kept_front}
-use Rattle.pf_smtp.proofs.standing.LineBuffer.keep.Goals as goal
-
-pub returns : goal.returns
-returns c =
-    rw (← c.self.view_is) (rw (c.in_ok-extend.ensures.ok, c.min-count.ensures, c.len.ensures) (kept_front c.self.inside.bytes c.args.bytes.now c.self.invariant))

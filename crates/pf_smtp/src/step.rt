@@ -1,0 +1,139 @@
+//! The steps of a session: one function for each verb.
+ghost use Rattle.std.specs.Prelude.{◌≡◌, None, Some, IfOk};
+ghost use Rattle.pf_smtp.specs.Clauses.Gives.{Gives};
+ghost use Rattle.pf_smtp.specs.Step as step;
+
+use crate::command::{Verb, after_keyword, argument_of, verb_of};
+use crate::entry::Entry;
+use crate::path::path_of;
+use crate::reply::{HeloReply, LineReply, MailReply, QuitReply, RcptReply, Reply};
+use crate::state::{Answer, Setup, State};
+use pf_base::{NoMemory, trimmed, without_return};
+use pf_eval::{PlainEnd, judge_plain};
+use std::alloc::Global;
+
+/// A line has at most so many bytes, without its line end.
+pub(crate) const LINE_LIMIT: usize = 2048;
+
+// One reply.
+fn says<'a>(reply: Reply<'a>) -> Answer<'a>
+    ensures { result ≡ record { reply = reply.entry; entry = None } }
+{
+    Answer { reply, entry: None }
+}
+
+// One reply and one log line.
+fn logs<'a>(reply: Reply<'a>, logged: Entry<'a>) -> Answer<'a>
+    ensures { result ≡ record { reply = reply.entry; entry = Some logged.entry } }
+{
+    Answer {
+        reply,
+        entry: Some(logged),
+    }
+}
+
+impl State {
+    fn helo<'a>(&mut self, argument: &'a [u8]) -> Answer<'a>
+        ensures { Gives (step.helo self.old argument.now) self.new result }
+    {
+        if argument.is_empty() {
+            return says(Reply::Helo(HeloReply::NeedsName));
+        }
+        self.sender = None;
+        says(Reply::Helo(HeloReply::Hello))
+    }
+
+    fn mail<'a>(&mut self, alloc: Global, argument: &'a [u8]) -> Result<Answer<'a>, NoMemory>
+        ensures { IfOk result (Gives (step.mail self.old argument.now) self.new) }
+    {
+        if self.sender.is_some() {
+            return Ok(says(Reply::Mail(MailReply::Nested)));
+        }
+        let Some(text) = after_keyword(b"FROM:", argument) else {
+            return Ok(says(Reply::Mail(MailReply::Syntax)));
+        };
+        let Some(sender) = path_of(text) else {
+            return Ok(says(Reply::Mail(MailReply::BadSender)));
+        };
+        self.sender = Some(sender.to_address(alloc)?);
+        Ok(says(Reply::Mail(MailReply::Taken)))
+    }
+
+    fn rcpt<'a>(&mut self, setup: &Setup, argument: &'a [u8]) -> Answer<'a>
+        ensures { Gives (step.rcpt setup.now self.old argument.now) self.new result }
+    {
+        if self.sender.is_none() {
+            return says(Reply::Rcpt(RcptReply::NeedMail));
+        }
+        let Some(text) = after_keyword(b"TO:", argument) else {
+            return says(Reply::Rcpt(RcptReply::Syntax));
+        };
+        let Some(recipient) = path_of(text) else {
+            return says(Reply::Rcpt(RcptReply::BadRecipient));
+        };
+        let line = self.line;
+        match judge_plain(&setup.policy, setup.client, recipient.domain()) {
+            PlainEnd::Accept => logs(
+                Reply::Rcpt(RcptReply::Taken),
+                Entry::Accepted { line, recipient },
+            ),
+            PlainEnd::Deny { place } => logs(
+                Reply::Rcpt(RcptReply::RelayDenied(recipient.again())),
+                Entry::Denied {
+                    line,
+                    recipient,
+                    place,
+                },
+            ),
+        }
+    }
+
+    fn quit<'a>(&mut self, argument: &'a [u8]) -> Answer<'a>
+        ensures { Gives (step.quit self.old argument.now) self.new result }
+    {
+        if argument.is_empty() {
+            self.ended = true;
+            return says(Reply::Quit(QuitReply::Bye));
+        }
+        says(Reply::Quit(QuitReply::Syntax))
+    }
+
+    #[tactic(auto, unfolding(crate::specs::Step::command))]
+    fn command<'a>(
+        &mut self,
+        alloc: Global,
+        setup: &Setup,
+        verb: Verb,
+        argument: &'a [u8],
+    ) -> Result<Answer<'a>, NoMemory>
+        ensures { IfOk result (Gives (step.command setup.now self.old verb argument.now) self.new) }
+    {
+        match verb {
+            Verb::Empty => Ok(says(Reply::Line(LineReply::BadSyntax))),
+            Verb::Helo => Ok(self.helo(argument)),
+            Verb::Mail => self.mail(alloc, argument),
+            Verb::Rcpt => Ok(self.rcpt(setup, argument)),
+            Verb::Quit => Ok(self.quit(argument)),
+            Verb::Other => Ok(says(Reply::Line(LineReply::NotRecognized))),
+        }
+    }
+
+    /// Answers the next line, as it is before its line feed. The answer may name parts of the line.
+    #[tactic(auto, unfolding(crate::specs::Step::step))]
+    pub(crate) fn step<'a>(
+        &mut self,
+        alloc: Global,
+        setup: &Setup,
+        raw: &'a [u8],
+    ) -> Result<Answer<'a>, NoMemory>
+        ensures { IfOk result (Gives (step.step setup.now self.old raw.now) self.new) }
+    {
+        self.line = self.line.saturating_add(1);
+        let line = without_return(raw);
+        if line.len() > LINE_LIMIT {
+            return Ok(says(Reply::Line(LineReply::TooLong)));
+        }
+        let line = trimmed(line);
+        self.command(alloc, setup, verb_of(line), argument_of(line))
+    }
+}
