@@ -1,5 +1,5 @@
 //! A list of bytes.
-ghost use Rattle.std.specs.Prelude.{◌≡◌, ◌<◌, ◌==◌, ℕ, List as Seq, [], ◌∷◌, ◌++◌, length, slice_index, IfOk, OnOk, OnErr};
+ghost use Rattle.std.specs.Prelude.{◌≡◌, ◌<◌, ◌≤◌, ◌==◌, ℕ, List as Seq, [], ◌∷◌, ◌++◌, drop, length, slice_index, IfOk, OnOk, OnErr};
 ghost use Rattle.std.specs.List.{flat_map};
 ghost use Rattle.std.specs.Hash as fed;
 ghost use Rattle.std.specs.Cmp.Rules.{comparing, hashing};
@@ -46,6 +46,14 @@ impl Hash for Bytes {
     fn hash<H: Hasher>(&self, state: &mut H) {
         self.items.as_slice().hash(state);
     }
+}
+
+// Puts bytes in the place of as many first ones.
+fn copy_over(bytes: &mut [u8], front: &[u8])
+    requires { length front.now ≤ length bytes.old }
+    ensures { bytes.new ≡ front.now ++ drop (length front.now) bytes.old }
+{
+    bytes[..front.len()].copy_from_slice(front);
 }
 
 impl Bytes {
@@ -122,6 +130,14 @@ impl Bytes {
             self.extend(part)?;
         }
         Ok(())
+    }
+
+    /// Puts bytes in the place of as many first ones.
+    pub fn put_front(&mut self, front: &[u8])
+        requires { length front.now ≤ length self.old }
+        ensures { self.new ≡ front.now ++ drop (length front.now) self.old }
+    {
+        copy_over(self.items.as_mut_slice(), front);
     }
 
     /// Lets all bytes go, and keeps their room.

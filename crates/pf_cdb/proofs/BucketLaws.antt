@@ -72,18 +72,6 @@ placed_push at (first ∷ pairs) pair =
     (placed_push (at + record_size first) pairs pair
     ∙ ap (λ n. placed (at + record_size first) pairs ++ record { hash = hash_of pair.key; at = n } ∷ []) sum)
 
--- one pair more
-pub placed_more : (entries : List Pair) (i : ℕ) (pair : Pair) (slot : Slot) → i < length entries → pair ≡ get_or entries i pair
-    → slot ≡ record { hash = hash_of pair.key; at = 2048 + sum_by record_size (take i entries) }
-    → with_slot (by_table (placed 2048 (take i entries))) slot ≡ by_table (placed 2048 (take (i + 1) entries))
-placed_more entries i pair slot low read is =
-    by_table_more (placed 2048 (take i entries)) slot
-    ∙ ap by_table (ap (λ s. placed 2048 (take i entries) ++ s ∷ []) is
-    ∙ sym (placed_push 2048 (take i entries) pair)
-    ∙ ap (λ p. placed 2048 (take i entries ++ p ∷ [])) read
-    ∙ ap (placed 2048) (sym (take_more entries i pair low)))
-
--- one list more, without a slot
-pub empty_more : {V : Type 0} (f : V → List Slot) (vs : List V) (v : V) (n : ℕ) → map f vs ≡ replicate n [] → f v ≡ [] → map f (vs ++ v ∷ []) ≡ replicate (n + 1) []
-empty_more f vs v n are none =
-    map_push f vs v ∙ ap (λ l. l ++ f v ∷ []) are ∙ ap (λ l. replicate n [] ++ l ∷ []) none ∙ replicate_more n []
+-- one slot more
+pub slots_more : (slots : List Slot) (i : ℕ) (d : Slot) → i < length slots → with_slot (by_table (take i slots)) (get_or slots i d) ≡ by_table (take (i + 1) slots)
+slots_more slots i d low = by_table_more (take i slots) (get_or slots i d) ∙ ap by_table (sym (take_more slots i d low))

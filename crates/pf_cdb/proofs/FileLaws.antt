@@ -9,10 +9,6 @@ use Rattle.pf_cdb.specs.Written.{by_table, bytes_of, filled, header_bytes, place
 use Rattle.pf_cdb.specs.declared.layout.Slot.{Slot}
 use Rattle.std.proofs.lemmas.List.{length-map}
 
--- a word has four bytes
-pub length_word : (n : ℕ) → length (bytes_of n) ≡ 4
-length_word n = refl
-
 pub length_record : (pair : Pair) → length (record_bytes pair) ≡ record_size pair
 length_record pair = omega (arith, length-append pair.key pair.value)
 
@@ -60,17 +56,3 @@ length_written entries =
       length-map (by_table (placed 2048 entries)) filled,
       length_by_table (placed 2048 entries),
     )
-
--- the header, the records and the tables, written in turn
-pub written_is : (entries : List Pair) (end : ℕ) (ts us : List (List Slot)) (none header records file : List ℕ) → end ≡ records_end entries → ts ≡ tables_of entries
-    → us ≡ tables_of entries → none ≡ [] → header ≡ none ++ header_bytes end ts → records ≡ header ++ flat_map record_bytes entries
-    → file ≡ records ++ flat_map table_bytes us → file ≡ written entries
-unfolding written
-written_is entries end ts us none header records file at front tables new add_header add_records add_tables =
-    add_tables
-    ∙ ap (λ l. l ++ flat_map table_bytes us)
-    (add_records ∙ ap (λ l. l ++ flat_map record_bytes entries) (add_header ∙ ap (λ l. l ++ header_bytes end ts) new))
-    ∙ append_assoc (header_bytes end ts) (flat_map record_bytes entries) (flat_map table_bytes us)
-    ∙ ap (λ t. header_bytes end t ++ (flat_map record_bytes entries ++ flat_map table_bytes us)) front
-    ∙ ap (λ n. header_bytes n (tables_of entries) ++ (flat_map record_bytes entries ++ flat_map table_bytes us)) at
-    ∙ ap (λ t. header_bytes (records_end entries) (tables_of entries) ++ (flat_map record_bytes entries ++ flat_map table_bytes t)) tables

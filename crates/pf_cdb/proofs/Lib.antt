@@ -1,3 +1,4 @@
+pub mod AddingLaws
 pub mod BucketLaws
 pub mod DamageLaws
 pub mod ElementLaws

@@ -5,8 +5,8 @@ use Rattle.std.proofs.lemmas.Bool.{le-ltb, lt-ltb}
 use Rattle.pf_base.specs.Clauses.Unless.{Unless}
 use Rattle.pf_base.specs.declared.pair.Pair.{Pair}
 use Rattle.pf_cdb.specs.Written.{written, written_file}
-use Rattle.pf_cdb.specs.declared.writing.WriteFault.{WriteFault}
-use Rattle.pf_cdb.specs.declared.writing.WriteFault.TheVariants.{NoMemory, TooLarge}
+use Rattle.pf_cdb.specs.declared.fault.WriteFault.{WriteFault}
+use Rattle.pf_cdb.specs.declared.fault.WriteFault.TheVariants.{NoMemory, TooLarge}
 
 pub unless_written : (entries : List Pair) (r : Result (List ℕ) WriteFault) → IfOk r (λ file. file ≡ written entries) → IfOk r (λ file. length file ≤ 67108864)
     → (r ≡ Err TooLarge → 67108864 < length (written entries)) → Unless r NoMemory (λ answer. answer ≡ written_file entries)

@@ -82,11 +82,11 @@ size_of_tables slots =
 abbrev pub entry_size : Pair → ℕ
 entry_size pair = record_size pair + 16
 
-length_placed : (at : ℕ) (pairs : List Pair) → length (placed at pairs) ≡ length pairs
+pub length_placed : (at : ℕ) (pairs : List Pair) → length (placed at pairs) ≡ length pairs
 length_placed at [] = refl
 length_placed at (pair ∷ pairs) = ap suc (length_placed (at + record_size pair) pairs)
 
-sixteen : (pairs : List Pair) → sum_by entry_size pairs ≡ sum_by record_size pairs + 16 * length pairs
+pub sixteen : (pairs : List Pair) → sum_by entry_size pairs ≡ sum_by record_size pairs + 16 * length pairs
 sixteen [] = refl
 sixteen (pair ∷ pairs) = omega (arith, sum_by-cons entry_size pair pairs, sum_by-cons record_size pair pairs, sixteen pairs)
 

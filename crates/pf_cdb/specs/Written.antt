@@ -7,8 +7,8 @@ use Rattle.pf_base.specs.declared.pair.Pair.{Pair}
 use Rattle.pf_cdb.specs.Hash.{hash_of}
 use Rattle.pf_cdb.specs.Held.{empty, is_used, tried}
 use Rattle.pf_cdb.specs.declared.layout.Slot.{Slot}
-use Rattle.pf_cdb.specs.declared.writing.WriteFault.{WriteFault}
-use Rattle.pf_cdb.specs.declared.writing.WriteFault.TheVariants.{TooLarge}
+use Rattle.pf_cdb.specs.declared.fault.WriteFault.{WriteFault}
+use Rattle.pf_cdb.specs.declared.fault.WriteFault.TheVariants.{TooLarge}
 
 -- a number in four bytes, the least byte first
 abbrev pub bytes_of : ℕ → List ℕ

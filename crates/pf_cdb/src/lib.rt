@@ -4,6 +4,7 @@
 
 mod checking;
 mod damage;
+mod fault;
 mod hashing;
 mod layout;
 mod listing;
@@ -12,13 +13,17 @@ mod placing;
 mod search;
 mod sizing;
 mod span;
+mod tables;
+mod writer;
 mod writing;
 
 pub use checking::check;
 pub use damage::Damage;
+pub use fault::WriteFault;
 pub use hashing::hash;
 pub use listing::elements;
 pub use opened::CdbFile;
 pub use search::find;
 pub use span::Span;
-pub use writing::{WriteFault, write};
+pub use writer::Writer;
+pub use writing::write;

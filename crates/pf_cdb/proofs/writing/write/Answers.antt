@@ -11,7 +11,7 @@ use Rattle.pf_cdb.specs.Damaged.{first_damage}
 use Rattle.pf_cdb.specs.Held.{elements_of}
 use Rattle.pf_cdb.specs.Sound.{IsSound}
 use Rattle.pf_cdb.specs.Written.{HasDistinctKeys, firsts, written, written_file}
-use Rattle.pf_cdb.specs.declared.writing.WriteFault.TheVariants.{NoMemory, TooLarge}
+use Rattle.pf_cdb.specs.declared.fault.WriteFault.TheVariants.{NoMemory, TooLarge}
 use Rattle.pf_cdb.proofs.writing.write.Goals as goal
 
 pub returns-then-not-fits : goal.returns-then-not-fits

@@ -2,7 +2,7 @@ use Rattle.std.proofs.Common.{◌%◌, ◌<◌, [], ◌∷◌, length, refl, ari
 use Rattle.std.proofs.lemmas.Nat.{mod_below}
 use Rattle.std.proofs.lemmas.Slice.{pushed}
 use Rattle.pf_cdb.proofs.BucketLaws.{with_slot_is}
-use Rattle.pf_cdb.proofs.writing.add_slot.Goals as goal
+use Rattle.pf_cdb.proofs.tables.add_slot.Goals as goal
 
 pub returns : goal.returns
 returns c =

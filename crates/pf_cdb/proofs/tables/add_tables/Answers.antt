@@ -3,7 +3,7 @@ use Rattle.std.specs.List.{flat_map}
 use Rattle.std.proofs.lemmas.List.{take_all}
 use Rattle.std.proofs.lemmas.List.Folds.{flat_map-map}
 use Rattle.pf_cdb.specs.Written.{table_bytes}
-use Rattle.pf_cdb.proofs.writing.add_tables.Goals as goal
+use Rattle.pf_cdb.proofs.tables.add_tables.Goals as goal
 
 pub returns : goal.returns
 returns c =
