@@ -1,5 +1,5 @@
 use crate::support::{Question, asked, asked_with};
-use pf_catalogue::{PARAMS, param_at, param_place};
+use pf_catalogue::{PARAMS, Param};
 use std::test::Fail;
 
 // A main.cf, a parameter, and what its value says.
@@ -147,7 +147,7 @@ const SPECS: &[(&str, &str)] = &[
 #[test]
 fn parameters_have_their_places(rt: HostRuntime) -> Result<(), Fail> {
     for place in 0..PARAMS {
-        assert_eq!(rt; param_place(param_at(place)), place);
+        assert_eq!(rt; Param::at(place).place(), place);
     }
     Ok(())
 }

@@ -1,6 +1,6 @@
 //! What the tests share: a question to the settings of a main.cf, and its answer as a text. One function alone owns settings.
 use pf_base::{Bytes, ConfFault, List, NoMemory, Refused, Specs, TableId, decimal};
-use pf_catalogue::{Kind, Param, kind_of, param};
+use pf_catalogue::{Kind, Param, param};
 use pf_maincf::{MainCf, Setting};
 use pf_params::Settings;
 use std::alloc::Global;
@@ -48,7 +48,7 @@ fn yes_text(alloc: Global, yes: bool) -> Result<Bytes, NoMemory> {
 
 // What the value of a parameter says.
 fn said(alloc: Global, settings: &Settings, p: Param) -> Result<Bytes, NoMemory> {
-    match kind_of(p) {
+    match p.kind() {
         Kind::Number { .. } => number_text(alloc, settings.number(p)),
         Kind::Code => number_text(alloc, settings.number(p)),
         Kind::Yes => yes_text(alloc, settings.yes(p)),

@@ -1,6 +1,5 @@
 use pf_base::{Bytes, ConfFault, NoMemory, decimal};
-use pf_maincf::MainCf;
-use pf_tools::conf_name;
+use pf_maincf::{MainCf, conf_name};
 use pf_words::{
     ConfMode, ConfWords, Shape, SmtpdWords, Words, ipv4_of, octet_of, setting_of_word,
     settings_of_words, sink_names, words_of,
