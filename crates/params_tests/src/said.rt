@@ -1,6 +1,6 @@
 //! Questions to the settings of a main.cf, each with its answer as a text. One function alone owns settings.
 use pf_base::{Bytes, ConfFault, List, NoMemory, Specs, TableId, decimal};
-use pf_catalogue::{Kind, PARAMS, Param, kind_of, param, param_at, param_place};
+use pf_catalogue::{Kind, PARAMS, Param, param};
 use pf_maincf::{MainCf, Setting};
 use pf_params::Settings;
 use std::alloc::Global;
@@ -37,7 +37,7 @@ fn add_value(
     settings: &Settings,
     p: Param,
 ) -> Result<(), NoMemory> {
-    match kind_of(p) {
+    match p.kind() {
         Kind::Number { .. } => add_number(alloc, said, settings.number(p)),
         Kind::Code => add_number(alloc, said, settings.number(p)),
         Kind::Yes => said.extend(yes_text(settings.yes(p))),
@@ -200,7 +200,7 @@ pub fn asked(
 pub fn add_places(alloc: Global, said: &mut Bytes) -> Result<(), NoMemory> {
     let mut count: u64 = 0;
     for place in 0..PARAMS {
-        if param_place(param_at(place)) == place {
+        if Param::at(place).place() == place {
             count = count.saturating_add(1);
         }
     }

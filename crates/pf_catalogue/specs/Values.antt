@@ -1,5 +1,5 @@
 -- The values of parameters (postconf(5)): what a text says, or None where it is none of the values of its kind.
-use Rattle.std.specs.Prelude.{ℕ, ◌≤◌, Bool, true, false, List, Option, None, Some, Result, Ok, Err, codes, if◌then◌else◌}
+use Rattle.std.specs.Prelude.{ℕ, ◌≤◌, Bool, true, false, List, [], Option, None, Some, Result, Ok, Err, codes, if◌then◌else◌}
 use Rattle.std.specs.List.{list_all}
 use Rattle.std.specs.Option.{option_map}
 use Rattle.std.specs.Str.{bytes_eq}
@@ -13,6 +13,26 @@ use Rattle.pf_catalogue.specs.declared.kind.Kind.{Kind}
 use Rattle.pf_catalogue.specs.declared.kind.Kind.TheVariants as kind
 use Rattle.pf_catalogue.specs.declared.value.Value.{Value}
 use Rattle.pf_catalogue.specs.declared.value.Value.TheVariants.{Text, Number, Yes, Items}
+
+-- the number, the answer, and the list that a value is, if it is one
+abbrev pub number_in : Value → Option ℕ
+number_in (Number n) = Some n
+number_in other = None
+
+abbrev pub answer_in : Value → Option Bool
+answer_in (Yes b) = Some b
+answer_in other = None
+
+abbrev pub list_in : Value → Option (List (List ℕ))
+list_in (Items items) = Some items
+list_in other = None
+
+-- the items of a list; none of another value
+abbrev pub items_in : Value → List (List ℕ)
+items_in Text = []
+items_in (Number n) = []
+items_in (Yes b) = []
+items_in (Items items) = items
 
 -- a domain's name, and no file's
 abbrev pub origin : List ℕ → Option Value

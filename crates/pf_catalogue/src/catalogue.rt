@@ -4,7 +4,9 @@ ghost use Rattle.std.specs.List.{position};
 ghost use Rattle.std.specs.Str.{bytes_eq};
 ghost use Rattle.pf_catalogue.specs.Catalogue as spec;
 ghost use Rattle.pf_catalogue.specs.Clauses.RowsMeant.{row_meant};
+ghost use Rattle.pf_catalogue.specs.declared.count.TheConstants.{PARAMS};
 
+use crate::count::PARAMS;
 use crate::kind::Kind::{
     self, AddressKinds, Code, Domains, Extensions, FixedYes, Hosts, Interfaces, Maps, Names,
     Networks, Number, Origin, Restrictions, RewriteClients, Text, Unset, Yes,
@@ -16,7 +18,7 @@ use pf_base::Meaning::{self, DomainOf, Is};
 pub struct Row<'a>(pub &'a [u8], pub Kind, pub Meaning<&'a [u8], &'a [u8]>);
 
 /// The parameters in the order of their names' bytes.
-static CATALOGUE: [Row<'static>; 77] = [
+static CATALOGUE: [Row<'static>; PARAMS as usize] = [
     Row(b"access_map_defer_code", Code, Is(b"450")),
     Row(b"access_map_reject_code", Code, Is(b"554")),
     Row(b"alias_maps", Maps, Is(b"")),
@@ -209,14 +211,14 @@ static CATALOGUE: [Row<'static>; 77] = [
 
 fn rows() -> &'static [Row<'static>]
     ensures rows { map row_meant result.now ≡ spec.catalogue }
-    ensures count { length result.now ≡ 77 }
+    ensures count { length result.now ≡ PARAMS }
 {
     &CATALOGUE
 }
 
 // The parameter at a place.
 pub(crate) fn row_at(place: usize) -> &'static Row<'static>
-    requires { place < 77 }
+    requires { place < PARAMS }
     ensures { row_meant result.now ≡ spec.row_at place }
 {
     &rows()[place]
@@ -232,7 +234,7 @@ fn place_in(rows: &[Row<'_>], name: &[u8]) -> Option<usize>
 // The place of the parameter of a name.
 pub(crate) fn place_of(name: &[u8]) -> Option<usize>
     ensures place { result ≡ spec.place_of name.now }
-    ensures within { IfSome result (λ place. place < 77) }
+    ensures within { IfSome result (λ place. place < PARAMS) }
 {
     place_in(rows(), name)
 }

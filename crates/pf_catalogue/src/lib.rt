@@ -4,6 +4,7 @@
 mod arguments;
 mod catalogue;
 mod clients;
+mod count;
 mod kind;
 mod lists;
 mod named;
@@ -13,8 +14,9 @@ mod tables;
 mod value;
 
 pub use catalogue::Row;
+pub use count::PARAMS;
 pub use kind::Kind;
-pub use named::{kind_of, param, param_at, param_name, param_place, param_row};
-pub use params::{PARAMS, Param};
+pub use named::{param, param_name};
+pub use params::Param;
 pub use tables::add_tables;
 pub use value::{Value, value_of};

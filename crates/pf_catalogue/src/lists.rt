@@ -2,6 +2,7 @@
 ghost use Rattle.std.specs.Prelude.{◌≡◌, ◌==◌};
 ghost use Rattle.std.specs.List.{list_all, list_any};
 ghost use Rattle.std.specs.Option.{option_copied};
+ghost use Rattle.pf_base.specs.Ascii as ascii;
 ghost use Rattle.pf_catalogue.specs.Lists as spec;
 
 use pf_base::Bytes;
@@ -60,7 +61,7 @@ pub(crate) fn are_extension_ways(items: &[Bytes]) -> bool
 }
 
 fn has_colon(text: &[u8]) -> bool
-    ensures { result ≡ list_any (λ b. b == 58) text.now }
+    ensures { result ≡ list_any (λ b. b == ascii.colon) text.now }
 {
     text.iter().any(|b| *b == b':')
 }

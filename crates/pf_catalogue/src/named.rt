@@ -1,10 +1,8 @@
-//! What the table says of a parameter.
-ghost use Rattle.std.specs.Prelude.{◌≡◌, ◌<◌};
+//! Parameters and their names.
+ghost use Rattle.std.specs.Prelude.{◌≡◌};
 ghost use Rattle.pf_catalogue.specs.Catalogue as spec;
-ghost use Rattle.pf_catalogue.specs.Clauses.RowsMeant.{row_meant};
 
-use crate::catalogue::{Row, place_of, row_at};
-use crate::kind::Kind;
+use crate::catalogue::place_of;
 use crate::params::Param;
 
 /// The parameter of a name (postconf(5)); None where the table has none.
@@ -19,39 +17,9 @@ pub fn param(name: &[u8]) -> Option<Param>
     }
 }
 
-/// The parameter at a place of the table, from 0.
-pub fn param_at(place: u16) -> Param
-    requires { place < 77 }
-    ensures { result ≡ place }
-{
-    Param { place }
-}
-
-/// The place of a parameter in the table, from 0.
-pub fn param_place(p: Param) -> u16
-    ensures place { result ≡ p }
-    ensures within { result < 77 }
-{
-    p.place
-}
-
 /// The name of a parameter.
 pub fn param_name(p: Param) -> &'static [u8]
     ensures { result.now ≡ (spec.row_at p).name }
 {
-    row_at(p.place as usize).0
-}
-
-/// What the values of a parameter are.
-pub fn kind_of(p: Param) -> Kind
-    ensures { result ≡ (spec.row_at p).kind }
-{
-    row_at(p.place as usize).1
-}
-
-/// A parameter's row of the table.
-pub fn param_row(p: Param) -> Row<'static>
-    ensures { row_meant result ≡ spec.row_at p }
-{
-    *row_at(p.place as usize)
+    p.row().0
 }

@@ -1,5 +1,6 @@
 //! The values of parameters.
 ghost use Rattle.std.specs.Prelude.{◌≡◌, IfOk};
+ghost use Rattle.std.specs.Option.{option_copied};
 ghost use Rattle.pf_catalogue.specs.Values as spec;
 
 use crate::clients::are_rewrite_clients;
@@ -21,6 +22,62 @@ pub enum Value {
     Number(u64),
     Yes(bool),
     Items(List<Bytes>),
+}
+
+impl Value {
+    /// The number that a value is; None of another value.
+    pub fn number(&self) -> Option<u64>
+        ensures { result ≡ spec.number_in self.now }
+    {
+        match self {
+            Value::Number(number) => Some(*number),
+            _ => None,
+        }
+    }
+
+    /// Whether a value is yes; None of one that is neither yes nor no.
+    pub fn answer(&self) -> Option<bool>
+        ensures { result ≡ spec.answer_in self.now }
+    {
+        match self {
+            Value::Yes(yes) => Some(*yes),
+            _ => None,
+        }
+    }
+
+    /// The list that a value is; None of another value.
+    pub fn list(&self) -> Option<&List<Bytes>>
+        ensures { option_copied result ≡ spec.list_in self.now }
+    {
+        match self {
+            Value::Items(items) => Some(items),
+            _ => None,
+        }
+    }
+
+    /// The items of a list; none of another value.
+    pub fn items(&self) -> &[Bytes]
+        ensures { result.now ≡ spec.items_in self.now }
+    {
+        match self {
+            Value::Items(items) => items.as_slice(),
+            Value::Text => &[],
+            Value::Number(_) => &[],
+            Value::Yes(_) => &[],
+        }
+    }
+
+    /// The items of a list; none of another value. It takes no memory.
+    pub fn into_items(self, alloc: Global) -> List<Bytes>
+        ensures { result ≡ spec.items_in self }
+    {
+        match self {
+            Value::Items(items) => items,
+            Value::Text => List::new(alloc),
+            Value::Number(_) => List::new(alloc),
+            Value::Yes(_) => List::new(alloc),
+        }
+    }
 }
 
 fn origin(text: &[u8]) -> Option<Value>

@@ -8,7 +8,7 @@ use Rattle.pf_base.specs.Lines.{without_return}
 use Rattle.pf_base.specs.Logical.{Grouped, Physical, alone, grouped, is_ignored, numbered, physical_lines, starts_with_space, unless_ignored}
 use Rattle.pf_base.specs.declared.logical.Logical.{Logical}
 use Rattle.pf_base.specs.declared.refused.Refused.{Refused}
-use Rattle.pf_maincf.specs.Edit.{AreSets, IsEditOf, edited, edited_in, edited_lines, edited_text, is_set, placed, set_at, value_of}
+use Rattle.pf_maincf.specs.Edit.{AreSets, IsEditOf, edited, edited_in, edited_lines, edited_text, is_writable, placed, set_at, value_of}
 use Rattle.pf_maincf.specs.Settings.{Conf, conf_of, last_setting}
 use Rattle.pf_maincf.specs.declared.setting.Setting.{Setting}
 use Rattle.pf_maincf.proofs.EditedLines.{AllSets, AreWritten, after, lines_appended, lines_edited, logical_after, none_leading}
@@ -16,7 +16,7 @@ use Rattle.pf_maincf.proofs.Ends.{either_option, either_way}
 use Rattle.pf_maincf.proofs.Entries.{IsRead, Says, is_read, plain, read_again, says_append, says_settings, settings_said}
 use Rattle.pf_maincf.proofs.Joined.{Texts, fold_line, joined, parts, texts_joined, texts_of, then_texts}
 use Rattle.pf_maincf.proofs.LastSettings.{Rises, last_changed, lines_of, missing, put, settings_after, value_of_each}
-use Rattle.pf_maincf.proofs.SetLines.{IsSet, and_left, and_right, is_set_is, set_text, text_says}
+use Rattle.pf_maincf.proofs.SetLines.{IsSet, and_left, and_right, is_writable_is, set_text, text_says}
 
 -- the logical lines of a text stand each behind the one before it
 rises_lower : (n : ℕ) (ms : List ℕ) → Rises (n + 1) ms → Rises n ms
@@ -36,19 +36,19 @@ rises_grouped n [] = tt
 rises_grouped n (line ∷ ls) = rises_more n (without_return line) (grouped (numbered (n + 1) ls)) (rises_grouped (n + 1) ls)
 
 -- the sets at their lines are sets too
-written : (settings sets : List Setting) → list_all is_set sets ≡ true → AreWritten (map (placed settings) sets)
+written : (settings sets : List Setting) → list_all is_writable sets ≡ true → AreWritten (map (placed settings) sets)
 written settings [] h line set at = cc
 written settings (q ∷ sets) h line set at =
-    let first = is_set_is (placed settings q) (and_left (is_set q) (list_all is_set sets) h) in
+    let first = is_writable_is (placed settings q) (and_left (is_writable q) (list_all is_writable sets) h) in
     either_way (eqb (placed settings q).line line)
     (λ k. let here = rw k at at in let e : placed settings q ≡ set = cc in subst IsSet e first)
-    (λ k. written settings sets (and_right (is_set q) (list_all is_set sets) h) line set (rw k at at))
+    (λ k. written settings sets (and_right (is_writable q) (list_all is_writable sets) h) line set (rw k at at))
 
-all_missing : (settings sets : List Setting) → list_all is_set sets ≡ true → AllSets (missing (map (placed settings) sets))
+all_missing : (settings sets : List Setting) → list_all is_writable sets ≡ true → AllSets (missing (map (placed settings) sets))
 all_missing settings [] h = tt
 all_missing settings (q ∷ sets) h =
-    let first = is_set_is (placed settings q) (and_left (is_set q) (list_all is_set sets) h) in
-    let more = all_missing settings sets (and_right (is_set q) (list_all is_set sets) h) in
+    let first = is_writable_is (placed settings q) (and_left (is_writable q) (list_all is_writable sets) h) in
+    let more = all_missing settings sets (and_right (is_writable q) (list_all is_writable sets) h) in
     either_way (eqb (placed settings q).line 0) (λ k. rw k (first, more)) (λ k. rw k more)
 
 -- what the lines of the edited text say
@@ -79,7 +79,7 @@ pub record IsEdited (file text : List ℕ) (sets old : List Setting) : Type 0 wh
   pub read : conf_of file text ≡ Ok (record { file = file; settings = new })
   pub settings : map plain new ≡ settings_after sets old
 
-edited_is_read : (file text : List ℕ) (sets : List Setting) (old : Conf) → list_all is_set sets ≡ true → IsRead file text old
+edited_is_read : (file text : List ℕ) (sets : List Setting) (old : Conf) → list_all is_writable sets ≡ true → IsRead file text old
     → IsEdited file (edited_text (map (placed old.settings) sets) text) sets old.settings
 edited_is_read file text sets old each r =
     let P : List Setting = map (placed old.settings) sets in

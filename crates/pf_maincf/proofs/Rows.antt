@@ -1,10 +1,15 @@
 -- Worked examples of the definitions, each by computation.
 use Rattle.std.proofs.Common.{◌≡◌, [], ◌∷◌, None, Some, Ok, Err, List, ℕ, true, false, map, refl, codes}
 use Rattle.std.specs.List.{list_all}
+use Rattle.std.specs.Str.{chars, is_utf8}
 use Rattle.pf_base.specs.Lines.{lines, rest}
+use Rattle.pf_base.specs.Printing.{printed_line}
 use Rattle.pf_base.specs.declared.logical.Logical.{Logical}
-use Rattle.pf_base.specs.declared.refused.Cause.TheVariants.{C1, C2, C3}
-use Rattle.pf_maincf.specs.Edit.{AreSets, Line, blocks_from, differ, edited, edited_by, is_ended, is_set, lines_in, placed, set_line}
+use Rattle.pf_base.specs.declared.pair.Pair.{Pair}
+use Rattle.pf_base.specs.declared.reading.ReadFault.TheVariants.{TooLarge}
+use Rattle.pf_base.specs.declared.refused.Cause.TheVariants.{C1, C2, C3, C10, C15}
+use Rattle.pf_maincf.specs.Edit.{AreSets, Line, blocks_from, differ, edited, edited_by, is_ended, is_writable, lines_in, placed, set_line}
+use Rattle.pf_maincf.specs.File.{bytes_in, conf_name, failed_line, text_read}
 use Rattle.pf_maincf.specs.Settings.{conf_of, conf_with, is_name, is_name_byte, last_setting, or_refused, refused, setting_of, settings_in, settings_of}
 use Rattle.pf_maincf.specs.declared.setting.Setting.{Setting}
 
@@ -169,10 +174,10 @@ none_is_set = refl
 abbrev set_to : List ℕ → List ℕ → Setting
 set_to name value = record { line = 7; name = name; value = value }
 
-sets_of_one_line : list_all is_set (set_to (codes "a") (codes "1, 2") ∷ set_to (codes "a#") [] ∷ set_to (codes "a") (codes "b = #c") ∷ []) ≡ true
+sets_of_one_line : list_all is_writable (set_to (codes "a") (codes "1, 2") ∷ set_to (codes "a#") [] ∷ set_to (codes "a") (codes "b = #c") ∷ []) ≡ true
 sets_of_one_line = refl
 
-no_sets_of_one_line : map is_set
+no_sets_of_one_line : map is_writable
     (set_to [] (codes "1") ∷ set_to (codes "a b") (codes "1") ∷ set_to (codes "a=") (codes "1") ∷ set_to (codes "#a") (codes "1") ∷ set_to (codes "a") (codes " 1")
     ∷ set_to (codes "a") (codes "1\t") ∷ set_to (codes "a") (codes "1\n2") ∷ set_to (codes "a") (codes "1\r") ∷ [])
     ≡ false ∷ false ∷ false ∷ false ∷ false ∷ false ∷ false ∷ false ∷ []
@@ -288,3 +293,22 @@ refused_text_is_not_edited : edited (codes "main.cf") (codes "a = 1\nb\n") (set_
     ≡ Err (record { file = codes "main.cf"; line = 2; cause = C2; name = [] })
 unfolding edited conf_of lines rest
 refused_text_is_not_edited = refl
+
+-- main.cf as a file
+names_of_files : map conf_name (None ∷ Some (codes "/etc/postgate") ∷ Some [] ∷ []) ≡ codes "main.cf" ∷ codes "/etc/postgate/main.cf" ∷ codes "/main.cf" ∷ []
+names_of_files = refl
+
+abbrev files : List Pair
+files = record { key = codes "main.cf"; value = codes "a = 1" } ∷ record { key = codes "x/main.cf"; value = [] } ∷ record { key = codes "Y/main.cf"; value = [] } ∷ []
+
+bytes_of_files : map (bytes_in files) (codes "main.cf" ∷ codes "x/main.cf" ∷ codes "y/main.cf" ∷ []) ≡ Some (codes "a = 1") ∷ Some [] ∷ None ∷ []
+unfolding is_utf8 chars lib.Utf8.encode
+bytes_of_files = refl
+
+texts_of_files : map (text_read (codes "f")) (Ok (Some (codes "a = 1")) ∷ Ok None ∷ Err TooLarge ∷ [])
+    ≡ Ok (codes "a = 1") ∷ Err (record { file = codes "f"; line = 0; cause = C10; name = codes "f" }) ∷ Err (record { file = codes "f"; line = 0; cause = C15; name = codes "f" }) ∷ []
+texts_of_files = refl
+
+failed_read : failed_line (codes "d\n/main.cf") (codes "read") ≡ codes "postgate: d?/main.cf: read failed\n"
+unfolding printed_line
+failed_read = refl

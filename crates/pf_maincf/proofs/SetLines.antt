@@ -11,7 +11,7 @@ use Rattle.std.proofs.lemmas.Slice.Eq.{bytes_eq-Decides}
 use Rattle.pf_base.specs.Lines.{without_return}
 use Rattle.pf_base.specs.Logical.{is_ignored, starts_with_space}
 use Rattle.pf_base.specs.Space.{is_space, trimmed}
-use Rattle.pf_maincf.specs.Edit.{is_set}
+use Rattle.pf_maincf.specs.Edit.{is_writable}
 use Rattle.pf_maincf.specs.Settings.{is_name, is_name_byte, setting_of}
 use Rattle.pf_maincf.specs.declared.setting.Setting.{Setting}
 use Rattle.pf_maincf.proofs.Ends.{has_feed, or_left, or_right}
@@ -54,8 +54,8 @@ pub record IsSet (set : Setting) : Type 0 where
   pub feed : has_feed set.value ≡ false
   pub returns : eqb (get_or set.value (length set.value - 1) 0) 13 ≡ false
 
-pub is_set_is : (set : Setting) → is_set set ≡ true → IsSet set
-is_set_is set h =
+pub is_writable_is : (set : Setting) → is_writable set ≡ true → IsSet set
+is_writable_is set h =
     let h5 = and_left _ (not (eqb (get_or set.value (length set.value - 1) 0) 13)) h in
     let h4 = and_left _ (not (has_feed set.value)) h5 in
     let h3 = and_left _ (bytes_eq (trimmed set.value) set.value) h4 in

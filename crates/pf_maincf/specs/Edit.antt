@@ -22,8 +22,8 @@ ends_in_return value = slice_index value (length value - 1) == ascii.carriage_re
 
 -- what one line can say: a name that holds no equals sign and begins no comment, and a value without space at its ends, in one line
 -- that ends in no carriage return
-abbrev pub is_set : Setting → Bool
-is_set set =
+abbrev pub is_writable : Setting → Bool
+is_writable set =
     is_name set.name && not (list_any (λ b. b == ascii.equals_sign) set.name) && not (begins_comment set.name)
     && bytes_eq (trimmed set.value) set.value && not (list_any (λ b. b == ascii.line_feed) set.value)
     && not (ends_in_return set.value)
@@ -40,10 +40,10 @@ first_differs (set ∷ sets) = not (list_any (λ other. bytes_eq set.name other.
 
 -- settings that an edit can write, each name once
 abbrev pub are_sets : List Setting → Bool
-are_sets sets = list_all is_set sets && differ (map (λ set. set.name) sets)
+are_sets sets = list_all is_writable sets && differ (map (λ set. set.name) sets)
 
 pub record AreSets (sets : List Setting) : Type 0 where
-  pub each : list_all is_set sets ≡ true
+  pub each : list_all is_writable sets ≡ true
   pub once : differ (map (λ set. set.name) sets) ≡ true
 
 -- the line that sets a name, with its line feed; the blank behind the equals sign stands before an empty value too

@@ -1,3 +1,4 @@
 pub mod Clauses
 pub mod Edit
+pub mod File
 pub mod Settings

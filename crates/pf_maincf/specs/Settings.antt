@@ -1,7 +1,7 @@
 -- The settings of a main.cf (postconf(5), main.cf format).
-use Rattle.std.specs.Prelude.{ℕ, ◌+◌, ◌==◌, ◌&&◌, ◌||◌, Bool, not, nat_le, nat_lt, List, [], ◌∷◌, Option, None, Some, Result, Ok, Err, length, reverse, take, drop, if◌then◌else◌}
+use Rattle.std.specs.Prelude.{ℕ, ◌+◌, ◌==◌, ◌&&◌, ◌||◌, Bool, not, nat_le, nat_lt, List, [], ◌∷◌, Option, None, Some, Result, Ok, Err, is_some, length, reverse, take, drop, if◌then◌else◌}
 use Rattle.std.specs.List.{find, list_all, position}
-use Rattle.std.specs.Option.{option_map}
+use Rattle.std.specs.Option.{option_map, option_map_or}
 use Rattle.std.specs.Str.{bytes_eq}
 use Rattle.pf_base.specs.Ascii as ascii
 use Rattle.pf_base.specs.Logical.{Grouped, Physical, grouped, physical_lines}
@@ -72,3 +72,11 @@ conf_of file text = conf_with file (settings_in file (grouped (physical_lines te
 -- the last setting of a name
 abbrev pub last_setting : List Setting → List ℕ → Option Setting
 last_setting settings name = find (λ setting. bytes_eq setting.name name) (reverse settings)
+
+-- a name that is set
+abbrev pub is_set : Conf → List ℕ → Bool
+is_set conf name = is_some (last_setting conf.settings name)
+
+-- the line of the last setting of a name, 0 where it is not set
+abbrev pub line_of : Conf → List ℕ → ℕ
+line_of conf name = option_map_or (λ (s : Setting). s.line) (last_setting conf.settings name) 0

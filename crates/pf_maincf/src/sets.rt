@@ -34,8 +34,8 @@ fn ends_in_return(value: &[u8]) -> bool
 
 /// Whether an edit can write a setting as one line: its name is one without `=` that begins no comment, and its value has no
 /// space at its ends, holds no line feed and does not end in a carriage return (postconf(5), main.cf format).
-pub fn is_set(set: &Setting) -> bool
-    ensures { result ≡ edit.is_set set.now }
+pub fn is_writable(set: &Setting) -> bool
+    ensures { result ≡ edit.is_writable set.now }
 {
     let name = set.name.as_slice();
     let value = set.value.as_slice();
@@ -48,9 +48,9 @@ pub fn is_set(set: &Setting) -> bool
 }
 
 fn all_set(sets: &[Setting]) -> bool
-    ensures { result ≡ list_all edit.is_set sets.now }
+    ensures { result ≡ list_all edit.is_writable sets.now }
 {
-    sets.iter().all(|set| is_set(set))
+    sets.iter().all(|set| is_writable(set))
 }
 
 // Whether one of the settings has this name.

@@ -13,12 +13,12 @@ use Rattle.pf_base.specs.declared.refused.Cause.{Cause}
 use Rattle.pf_base.specs.declared.refused.Refused.{Refused}
 use Rattle.pf_catalogue.specs.Catalogue.{Row, catalogue}
 use Rattle.pf_maincf.proofs.SetLines.{not_true}
+use Rattle.pf_maincf.specs.Settings.{Conf, is_set}
 use Rattle.pf_params.specs.Accepted.{refusal_in}
 use Rattle.pf_params.specs.Classes.{class_names, class_read, class_row, class_rows, classes_of}
 use Rattle.pf_params.proofs.ReadingLaws.{or_refused}
 use Rattle.pf_params.specs.Clauses.Readings.{before, held_readings, readings_of}
-use Rattle.pf_params.specs.Parameters.{is_set, reading_of, refusal_of, refusals, row_refusal, with_lesser}
-use Rattle.pf_params.specs.Settled.{Settled}
+use Rattle.pf_params.specs.Parameters.{reading_of, refusal_of, refusals, row_refusal, with_lesser}
 use Rattle.pf_params.specs.declared.classes.Class.{Class}
 use Rattle.pf_params.specs.declared.readings.Reading.{Reading}
 
@@ -53,7 +53,7 @@ catalogue_ascends : ascend catalogue ≡ true
 unfolding catalogue
 catalogue_ascends = refl
 
-module _ (s : Settled) where
+module _ (s : Conf) where
   -- so the first refusal stays the first
   stays : (first : Refused) (rows : List Row) → is_least first.name rows ≡ true → fold with_lesser (Some first) (refusals s rows) ≡ Some first
   stays first [] least = refl

@@ -8,64 +8,65 @@ use Rattle.pf_base.specs.Names.{same_in_any_case}
 use Rattle.pf_base.specs.Words.{words_of}
 use Rattle.pf_base.specs.declared.words.WordsFault.{WordsFault}
 use Rattle.pf_catalogue.specs.Numbers.{is_number, number_within}
-use Rattle.pf_catalogue.specs.Tables.{tables_of}
-use Rattle.pf_catalogue.specs.Values.{IsNumberOf, are_items, greatest_code, least_code, list_of, value_of}
+use Rattle.pf_catalogue.specs.Values.{IsNumberOf, answer_in, are_items, greatest_code, least_code, list_in, list_of, number_in, value_of}
 use Rattle.pf_catalogue.specs.declared.kind.Kind.{Kind}
 use Rattle.pf_catalogue.specs.declared.kind.Kind.TheVariants as kind
 use Rattle.pf_catalogue.specs.declared.value.Value.{Value}
 use Rattle.pf_catalogue.specs.declared.value.Value.TheVariants.{Text, Number, Yes, Items}
 use Rattle.pf_params.specs.Accepted.{is_list, is_numeric}
 
-abbrev pub IsNumber : Value → Type 0
-IsNumber Text = ⊥
-IsNumber (Number n) = Unit {0}
-IsNumber (Yes b) = ⊥
-IsNumber (Items items) = ⊥
+-- a value that is a number, an answer or a list
+pub is_number_value : (v : Value) (n : ℕ) → Some n ≡ number_in v → v ≡ Number n
+is_number_value (Number m) n is = let same : n ≡ m = cc in ap Number (sym same)
+is_number_value Text n is = cc
+is_number_value (Yes b) n is = cc
+is_number_value (Items items) n is = cc
 
-abbrev pub IsAnswer : Value → Type 0
-IsAnswer Text = ⊥
-IsAnswer (Number n) = ⊥
-IsAnswer (Yes b) = Unit {0}
-IsAnswer (Items items) = ⊥
+pub is_answer_value : (v : Value) (b : Bool) → Some b ≡ answer_in v → v ≡ Yes b
+is_answer_value (Yes a) b is = let same : b ≡ a = cc in ap Yes (sym same)
+is_answer_value Text b is = cc
+is_answer_value (Number n) b is = cc
+is_answer_value (Items items) b is = cc
 
-abbrev pub IsItems : Value → Type 0
-IsItems Text = ⊥
-IsItems (Number n) = ⊥
-IsItems (Yes b) = ⊥
-IsItems (Items items) = Unit {0}
+pub is_list_value : (v : Value) (items : List (List ℕ)) → Some items ≡ list_in v → v ≡ Items items
+is_list_value (Items others) items is = let same : items ≡ others = cc in ap Items (sym same)
+is_list_value Text items is = cc
+is_list_value (Number n) items is = cc
+is_list_value (Yes b) items is = cc
 
-number_there : (o : Option ℕ) (v : Value) → option_map Number o ≡ Some v → IsNumber v
-number_there None v is = cc
-number_there (Some n) v is = let same : Number n ≡ v = cc in subst IsNumber same tt
+-- the values of numbers, of yes and no, and of lists are such
+number_there : (o : Option ℕ) (v : Value) → option_map Number o ≡ Some v → None ≡ number_in v → ⊥
+number_there None v is none = cc
+number_there (Some n) v is none = let same : Number n ≡ v = cc in let there = none ∙ ap number_in (sym same) in cc
 
-pub numeric_only : (k : Kind) (text : List ℕ) (v : Value) → is_numeric k ≡ true → value_of k text ≡ Some v → IsNumber v
-numeric_only (kind.Number least most) text v h is = number_there (number_within least most text) v is
-numeric_only kind.Code text v h is = number_there (number_within least_code greatest_code text) v is
-numeric_only k text v h is = cc
+pub numeric_there : (k : Kind) (text : List ℕ) (v : Value) → is_numeric k ≡ true → value_of k text ≡ Some v → None ≡ number_in v → ⊥
+numeric_there (kind.Number least most) text v h is = number_there (number_within least most text) v is
+numeric_there kind.Code text v h is = number_there (number_within least_code greatest_code text) v is
+numeric_there k text v h is = cc
 
-pub answer_only : (k : Kind) (text : List ℕ) (v : Value) → k ≡ kind.Yes → value_of k text ≡ Some v → IsAnswer v
-answer_only k text v h is = by_tests (same_in_any_case text (codes "yes")) (same_in_any_case text (codes "no")) (sym (ap (λ x. value_of x text) h) ∙ is) where
-  by_tests : (s t : Bool) → (if s then Some (Yes true) else if t then Some (Yes false) else None) ≡ Some v → IsAnswer v
-  by_tests true t is = let same : Yes true ≡ v = cc in subst IsAnswer same tt
-  by_tests false true is = let same : Yes false ≡ v = cc in subst IsAnswer same tt
+pub answer_there : (k : Kind) (text : List ℕ) (v : Value) → k ≡ kind.Yes → value_of k text ≡ Some v → None ≡ answer_in v → ⊥
+answer_there k text v h is none = by_tests (same_in_any_case text (codes "yes")) (same_in_any_case text (codes "no")) (sym (ap (λ x. value_of x text) h) ∙ is) where
+  by_tests : (s t : Bool) → (if s then Some (Yes true) else if t then Some (Yes false) else None) ≡ Some v → ⊥
+  by_tests true t is = let same : Yes true ≡ v = cc in let there = none ∙ ap answer_in (sym same) in cc
+  by_tests false true is = let same : Yes false ≡ v = cc in let there = none ∙ ap answer_in (sym same) in cc
   by_tests false false is = cc
 
-items_there : (k : Kind) (r : Result (List (List ℕ)) WordsFault) (v : Value) → list_of k r ≡ Some v → IsItems v
-items_there k (Err fault) v is = cc
-items_there k (Ok items) v is = by_test (are_items k items) is where
-  by_test : (t : Bool) → (if t then Some (Items items) else None) ≡ Some v → IsItems v
-  by_test true is = let same : Items items ≡ v = cc in subst IsItems same tt
+items_there : (k : Kind) (r : Result (List (List ℕ)) WordsFault) (v : Value) → list_of k r ≡ Some v → None ≡ list_in v → ⊥
+items_there k (Err fault) v is none = cc
+items_there k (Ok items) v is none = by_test (are_items k items) is where
+  by_test : (t : Bool) → (if t then Some (Items items) else None) ≡ Some v → ⊥
+  by_test true is = let same : Items items ≡ v = cc in let there = none ∙ ap list_in (sym same) in cc
   by_test false is = cc
 
-pub list_only : (k : Kind) (text : List ℕ) (v : Value) → is_list k ≡ true → value_of k text ≡ Some v → IsItems v
-list_only kind.Text text v h is = cc
-list_only kind.Unset text v h is = cc
-list_only kind.Origin text v h is = cc
-list_only (kind.Number least most) text v h is = cc
-list_only kind.Code text v h is = cc
-list_only kind.Yes text v h is = cc
-list_only kind.FixedYes text v h is = cc
-list_only k text v h is = items_there k (words_of text) v is
+pub list_there : (k : Kind) (text : List ℕ) (v : Value) → is_list k ≡ true → value_of k text ≡ Some v → None ≡ list_in v → ⊥
+list_there kind.Text text v h is = cc
+list_there kind.Unset text v h is = cc
+list_there kind.Origin text v h is = cc
+list_there (kind.Number least most) text v h is = cc
+list_there kind.Code text v h is = cc
+list_there kind.Yes text v h is = cc
+list_there kind.FixedYes text v h is = cc
+list_there k text v h is = items_there k (words_of text) v is
 
 -- a number is one of its kind
 both : (a b c : Bool) → (a && b && c) ≡ true → (b ≡ true) × (c ≡ true)
@@ -111,13 +112,3 @@ items_of_kind kind.Code text items h is = cc
 items_of_kind kind.Yes text items h is = cc
 items_of_kind kind.FixedYes text items h is = cc
 items_of_kind k text items h is = items_allowed k (words_of text) items is
-
--- no items name no tables
-pub no_tables : (k : Kind) → tables_of k [] ≡ []
-no_tables kind.Maps = refl
-no_tables kind.Domains = refl
-no_tables kind.Networks = refl
-no_tables kind.Hosts = refl
-no_tables kind.Restrictions = refl
-no_tables kind.RewriteClients = refl
-no_tables k = refl

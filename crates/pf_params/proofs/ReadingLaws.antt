@@ -9,20 +9,21 @@ use Rattle.pf_catalogue.specs.Catalogue.{Row}
 use Rattle.pf_catalogue.specs.Values.{value_of}
 use Rattle.pf_catalogue.specs.declared.value.Value.{Value}
 use Rattle.pf_expand.specs.Expansion.{Answer, content}
+use Rattle.pf_maincf.specs.Settings.{Conf, is_set, line_of}
 use Rattle.pf_params.specs.Accepted.{raw_of, said_by, text_of}
 use Rattle.pf_params.specs.Clauses.Readings.{before, readings_of}
-use Rattle.pf_params.specs.Parameters.{is_set, line_of, may_stand, raw_text, reading_from, reading_if, reading_of, refusal_of}
-use Rattle.pf_params.specs.Settled.{Settled, value_alone}
+use Rattle.pf_params.specs.Parameters.{may_stand, raw_text, reading_from, reading_if, reading_of, refusal_of}
+use Rattle.pf_params.specs.Settled.{value_alone}
 use Rattle.pf_params.specs.declared.readings.Reading.{Reading}
 
 -- a reading is this parameter's
-pub record IsRead (s : Settled) (row : Row) (r : Reading) : Type 0 where
+pub record IsRead (s : Conf) (row : Row) (r : Reading) : Type 0 where
   pub line : r.line ≡ line_of s row.name
   pub raw : r.raw ≡ raw_of s row
   pub text : r.text ≡ text_of s row
   pub said : said_by s row ≡ Some r.value
 
-pub reading_is : (s : Settled) (row : Row) (r : Reading) → reading_of s row ≡ Ok r → IsRead s row r
+pub reading_is : (s : Conf) (row : Row) (r : Reading) → reading_of s row ≡ Ok r → IsRead s row r
 unfolding reading_of
 reading_is s row r is = by_value (value_alone s row.name) refl is where
   by_value : (a : Answer) → value_alone s row.name ≡ a → reading_from s row a ≡ Ok r → IsRead s row r
@@ -46,11 +47,11 @@ reading_is s row r is = by_value (value_alone s row.name) refl is where
       by_test false is = cc
 
 -- a reading or its refusal, before what is read of others
-abbrev pub or_refused : Settled → Row → Result Reading Cause → Result (List Reading) Refused → Result (List Reading) Refused
+abbrev pub or_refused : Conf → Row → Result Reading Cause → Result (List Reading) Refused → Result (List Reading) Refused
 or_refused s row x behind = result_map_both (λ reading. reading) (refusal_of s row.name) x >>= (λ reading. before (reading ∷ []) behind)
 
 -- all of them
-front_read : (s : Settled) (row : Row) (rows : List Row) (readings : List Reading) → readings_of s (row ∷ rows) ≡ Ok readings
+front_read : (s : Conf) (row : Row) (rows : List Row) (readings : List Reading) → readings_of s (row ∷ rows) ≡ Ok readings
     → (first : Reading) × (rest : List Reading) × (reading_of s row ≡ Ok first) × (readings_of s rows ≡ Ok rest) × (readings ≡ first ∷ rest)
 front_read s row rows readings is = by_first (reading_of s row) (readings_of s rows) refl refl is where
   by_first : (x : Result Reading Cause) (y : Result (List Reading) Refused) → reading_of s row ≡ x → readings_of s rows ≡ y → or_refused s row x y ≡ Ok readings
@@ -59,13 +60,13 @@ front_read s row rows readings is = by_first (reading_of s row) (readings_of s r
   by_first (Ok first) (Err refusal) e f is = cc
   by_first (Ok first) (Ok rest) e f is = (first, rest, e, f, cc)
 
-pub readings_count : (s : Settled) (rows : List Row) (readings : List Reading) → readings_of s rows ≡ Ok readings → length readings ≡ length rows
+pub readings_count : (s : Conf) (rows : List Row) (readings : List Reading) → readings_of s rows ≡ Ok readings → length readings ≡ length rows
 readings_count s [] readings is = let none : readings ≡ [] = cc in ap length none
 readings_count s (row ∷ rows) readings is =
     let front = front_read s row rows readings is in
     ap length front.4 ∙ ap suc (readings_count s rows front.1 front.3)
 
-pub reading_there : (s : Settled) (rows : List Row) (readings : List Reading) (place : ℕ) (r : Reading) (other : Row) → readings_of s rows ≡ Ok readings → slice_get readings place ≡ Some r
+pub reading_there : (s : Conf) (rows : List Row) (readings : List Reading) (place : ℕ) (r : Reading) (other : Row) → readings_of s rows ≡ Ok readings → slice_get readings place ≡ Some r
     → reading_of s (get_or rows place other) ≡ Ok r
 reading_there s [] readings place r other is found =
     let none : readings ≡ [] = cc in let nothing : slice_get {X = Reading} [] place ≡ Some r = ap (λ rs. slice_get rs place) (sym none) ∙ found in cc
@@ -77,17 +78,17 @@ reading_there s (row ∷ rows) readings (suc place) r other is found =
     reading_there s rows front.1 place r other front.3 (ap (λ rs. slice_get rs (suc place)) (sym front.4) ∙ found)
 
 -- a refusal of the next one is that of all
-pub refused_next : (s : Settled) (front : List Reading) (row : Row) (rows : List Row) (cause : Cause) → reading_of s row ≡ Err cause
+pub refused_next : (s : Conf) (front : List Reading) (row : Row) (rows : List Row) (cause : Cause) → reading_of s row ≡ Err cause
     → before front (readings_of s (row ∷ rows)) ≡ Err (refusal_of s row.name cause)
 refused_next s front row rows cause is = ap (λ x. before front (or_refused s row x (readings_of s rows))) is
 
 -- one more that is read
-pub read_next : (s : Settled) (front : List Reading) (row : Row) (rows : List Row) (r : Reading) → reading_of s row ≡ Ok r
+pub read_next : (s : Conf) (front : List Reading) (row : Row) (rows : List Row) (r : Reading) → reading_of s row ≡ Ok r
     → before (front ++ (r ∷ [])) (readings_of s rows) ≡ before front (readings_of s (row ∷ rows))
 read_next s front row rows r is = by_rest (readings_of s rows) ∙ sym (ap (λ x. before front (or_refused s row x (readings_of s rows))) is) where
   by_rest : (y : Result (List Reading) Refused) → before (front ++ (r ∷ [])) y ≡ before front (before (r ∷ []) y)
   by_rest (Ok rest) = ap Ok (append_assoc front (r ∷ []) rest)
   by_rest (Err refusal) = refl
 
-pub read_last : (s : Settled) (front : List Reading) (rows : List Row) → rows ≡ [] → before front (readings_of s rows) ≡ Ok front
+pub read_last : (s : Conf) (front : List Reading) (rows : List Row) → rows ≡ [] → before front (readings_of s rows) ≡ Ok front
 read_last s front rows none = ap (λ rs. before front (readings_of s rs)) none ∙ ap Ok (append-nil front)

@@ -15,13 +15,14 @@ use Rattle.pf_expand.specs.Expansion.{parts, text_value}
 use Rattle.pf_expand.specs.Forms.{first_part, form_of}
 use Rattle.pf_expand.specs.Names.{name_value}
 use Rattle.pf_expand.specs.declared.flaw.Flaw.TheVariants.{BadForm, TooDeep, TooLong}
+use Rattle.pf_maincf.specs.Settings.{Conf, line_of}
 use Rattle.pf_maincf.specs.declared.setting.Setting.{Setting}
 use Rattle.pf_params.specs.Accepted.{restriction_lists, with_class, with_named, with_plain}
 use Rattle.pf_params.specs.Classes.{class_names, class_rows, classes_of}
 use Rattle.pf_params.specs.Clauses.Readings.{readings_of}
-use Rattle.pf_params.specs.Parameters.{line_of, raw_text, reading_of, refusal_of, refusals, with_lesser}
+use Rattle.pf_params.specs.Parameters.{raw_text, reading_of, refusal_of, refusals, with_lesser}
 use Rattle.pf_params.specs.Sources.{preset_of}
-use Rattle.pf_params.specs.Settled.{Settled, cause_of, settled, settled_source, value_in}
+use Rattle.pf_params.specs.Settled.{cause_of, settled, settled_source, value_in}
 
 -- each parameter stands for the default of its own row
 defaults_agree : map (λ (r : Row). preset_of r.name) catalogue ≡ map (λ (r : Row). r.preset) catalogue
@@ -32,7 +33,7 @@ defaults_agree = refl
 abbrev set : ℕ → List ℕ → List ℕ → Setting
 set line name value = record { line = line; name = name; value = value }
 
-abbrev s : Settled
+abbrev s : Conf
 s = settled (record {
   file = codes "main.cf";
   settings = set 1 (codes "myhostname") (codes "mx.example.com") ∷ set 2 (codes "reject_code") (codes "550") ∷ set 3 (codes "reject_code") (codes "$asked")

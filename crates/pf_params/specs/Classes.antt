@@ -7,9 +7,10 @@ use Rattle.std.specs.Str.{bytes_eq}
 use Rattle.pf_base.specs.declared.meaning.Meaning.TheVariants.{Is}
 use Rattle.pf_base.specs.declared.refused.Cause.{Cause}
 use Rattle.pf_catalogue.specs.Catalogue.{Row, place_of, row, row_at}
+use Rattle.pf_catalogue.specs.Values.{items_in}
 use Rattle.pf_catalogue.specs.declared.kind.Kind.TheVariants.{Restrictions}
-use Rattle.pf_params.specs.Parameters.{is_set, items_in, reading_of}
-use Rattle.pf_params.specs.Settled.{Settled}
+use Rattle.pf_maincf.specs.Settings.{Conf, is_set}
+use Rattle.pf_params.specs.Parameters.{reading_of}
 use Rattle.pf_params.specs.declared.classes.Class.{Class}
 use Rattle.pf_params.specs.declared.readings.Reading.{Reading}
 
@@ -18,29 +19,29 @@ abbrev pub names_read : Result Reading Cause → List (List ℕ)
 names_read (Ok reading) = items_in reading.value
 names_read (Err cause) = []
 
-abbrev pub names_at : Settled → Option ℕ → List (List ℕ)
+abbrev pub names_at : Conf → Option ℕ → List (List ℕ)
 names_at settled None = []
 names_at settled (Some place) = names_read (reading_of settled (row_at place))
 
-abbrev pub class_names : Settled → List (List ℕ)
+abbrev pub class_names : Conf → List (List ℕ)
 class_names settled = names_at settled (place_of (codes "smtpd_restriction_classes"))
 
 -- the rows of the classes of these names that are set; one that is listed and not set has no items
 abbrev pub class_row : List ℕ → Row
 class_row name = row name Restrictions (Is [])
 
-abbrev pub class_rows : Settled → List (List ℕ) → List Row
+abbrev pub class_rows : Conf → List (List ℕ) → List Row
 class_rows settled names = map class_row (filter (is_set settled) names)
 
 -- a class by what is read of it
 abbrev pub class_of : List ℕ → Reading → Class
 class_of name reading = record { name = name; line = reading.line; items = items_in reading.value }
 
-abbrev pub class_read : Settled → Row → Option Class
+abbrev pub class_read : Conf → Row → Option Class
 class_read settled row = option_map (class_of row.name) (result_ok (reading_of settled row))
 
 -- the classes of rows, in order
-abbrev pub classes_of : Settled → List Row → List Class
+abbrev pub classes_of : Conf → List Row → List Class
 classes_of settled rows = filter_map (class_read settled) rows
 
 -- the class of a name

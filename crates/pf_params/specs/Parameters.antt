@@ -1,5 +1,5 @@
 -- What is read of the parameters, and which is refused first (postconf(5)). The causes of refusals and their order are postgate's own.
-use Rattle.std.specs.Prelude.{ℕ, Bool, true, not, List, [], Option, None, Some, Result, Ok, Err, is_some, if◌then◌else◌}
+use Rattle.std.specs.Prelude.{ℕ, Bool, true, not, List, Option, None, Some, Result, Ok, Err, if◌then◌else◌}
 use Rattle.std.specs.Cmp.Lexicographic.{slice_cmp}
 use Rattle.std.specs.List.{filter_map}
 use Rattle.std.specs.Option.{option_map_or}
@@ -15,23 +15,14 @@ use Rattle.pf_catalogue.specs.Values.{value_of}
 use Rattle.pf_catalogue.specs.declared.kind.Kind.{Kind}
 use Rattle.pf_catalogue.specs.declared.kind.Kind.TheVariants.{FixedYes, Unset}
 use Rattle.pf_catalogue.specs.declared.value.Value.{Value}
-use Rattle.pf_catalogue.specs.declared.value.Value.TheVariants.{Text, Number, Yes, Items}
 use Rattle.pf_expand.specs.Expansion.{Answer}
-use Rattle.pf_maincf.specs.Settings.{last_setting}
+use Rattle.pf_maincf.specs.Settings.{Conf, is_set, last_setting, line_of}
 use Rattle.pf_maincf.specs.declared.setting.Setting.{Setting}
-use Rattle.pf_params.specs.Settled.{Settled, cause_of, value_alone}
+use Rattle.pf_params.specs.Settled.{cause_of, value_alone}
 use Rattle.pf_params.specs.declared.readings.Reading.{Reading}
 
--- a name that is set
-abbrev pub is_set : Settled → List ℕ → Bool
-is_set settled name = is_some (last_setting settled.settings name)
-
--- the line of the last setting of a name, 0 where it is not set
-abbrev pub line_of : Settled → List ℕ → ℕ
-line_of settled name = option_map_or (λ (s : Setting). s.line) (last_setting settled.settings name) 0
-
 -- the refusal of a name's setting
-abbrev pub refusal_of : Settled → List ℕ → Cause → Refused
+abbrev pub refusal_of : Conf → List ℕ → Cause → Refused
 refusal_of settled name cause = record { file = settled.file; line = line_of settled name; cause = cause; name = name }
 
 -- a parameter of this kind may be as it is, set or not
@@ -51,47 +42,40 @@ preset_text (Is bytes) value = bytes
 preset_text (DomainOf name) value = value
 
 -- the text of a parameter with this value
-abbrev pub raw_text : Settled → Row → List ℕ → List ℕ
+abbrev pub raw_text : Conf → Row → List ℕ → List ℕ
 raw_text settled row value = option_map_or (λ (s : Setting). s.value) (last_setting settled.settings row.name) (preset_text row.preset value)
 
 -- what is read of a parameter with this value, if that says something
-abbrev pub reading_if : Settled → Row → List ℕ → Option Value → Result Reading Cause
+abbrev pub reading_if : Conf → Row → List ℕ → Option Value → Result Reading Cause
 reading_if settled row text None = Err (bad_value row.kind)
 reading_if settled row text (Some value) =
     if may_stand row.kind (is_set settled row.name)
     then Ok (record { line = line_of settled row.name; raw = raw_text settled row text; text = text; value = value })
     else Err C14
 
-abbrev pub reading_with : Settled → Row → List ℕ → Result Reading Cause
+abbrev pub reading_with : Conf → Row → List ℕ → Result Reading Cause
 reading_with settled row text = reading_if settled row text (value_of row.kind text)
 
 -- what is read of a parameter, or the cause of its refusal: first of its value, then of its kind
-abbrev pub reading_from : Settled → Row → Answer → Result Reading Cause
+abbrev pub reading_from : Conf → Row → Answer → Result Reading Cause
 reading_from settled row (Ok text) = reading_with settled row text
 reading_from settled row (Err flaw) = Err (cause_of flaw)
 
-unfoldable pub reading_of : Settled → Row → Result Reading Cause
+unfoldable pub reading_of : Conf → Row → Result Reading Cause
 reading_of settled row = reading_from settled row (value_alone settled row.name)
 
 -- what is read of a parameter, or its refusal
-abbrev pub row_read : Settled → Row → Result Reading Refused
+abbrev pub row_read : Conf → Row → Result Reading Refused
 row_read settled row = result_map_both (λ reading. reading) (refusal_of settled row.name) (reading_of settled row)
 
 -- the refusals of parameters, in their order
-abbrev pub row_refusal : Settled → Row → Option Refused
+abbrev pub row_refusal : Conf → Row → Option Refused
 row_refusal settled row = result_err (row_read settled row)
 
-abbrev pub refusals : Settled → List Row → List Refused
+abbrev pub refusals : Conf → List Row → List Refused
 refusals settled rows = filter_map (row_refusal settled) rows
 
 -- of two refusals the one whose name is less in byte order, the first where they have one name
 abbrev pub with_lesser : Option Refused → Refused → Option Refused
 with_lesser None second = Some second
 with_lesser (Some first) second = if is_lt (slice_cmp nat_cmp second.name first.name) then Some second else Some first
-
--- the items of a value, if it is a list
-abbrev pub items_in : Value → List (List ℕ)
-items_in Text = []
-items_in (Number n) = []
-items_in (Yes b) = []
-items_in (Items items) = items

@@ -13,22 +13,17 @@ use Rattle.pf_maincf.specs.Settings.{Conf}
 use Rattle.pf_maincf.specs.declared.setting.Setting.{Setting}
 use Rattle.pf_params.specs.Sources.{preset_of, source_of}
 
--- the name of the file, and all settings in order
-pub record Settled : Type 0 where
-  pub file : List ℕ
-  pub settings : List Setting
-
 -- a setting, at line 0 where it stands in no file
 abbrev pub line_if : Bool → Setting → Setting
 line_if true setting = setting
 line_if false setting = record setting { line = 0 }
 
 -- the settings of a main.cf, and behind them those that count after them
-abbrev pub settled : Conf → List Setting → Settled
+abbrev pub settled : Conf → List Setting → Conf
 settled conf over = record { file = conf.file; settings = map (line_if true) conf.settings ++ map (line_if false) over }
 
 -- what a name stands for
-abbrev pub settled_source : Settled → List ℕ → Source
+abbrev pub settled_source : Conf → List ℕ → Source
 settled_source settled name = source_of preset_of settled.settings name
 
 -- the cause of a refusal
@@ -46,9 +41,9 @@ abbrev pub or_refused : List ℕ → Answer → Result (List ℕ) Refused
 or_refused file value = result_map_both (λ bytes. bytes) (refused file) value
 
 -- the value of a text
-abbrev pub value_in : Settled → List ℕ → Result (List ℕ) Refused
+abbrev pub value_in : Conf → List ℕ → Result (List ℕ) Refused
 value_in settled text = or_refused settled.file (expanded (settled_source settled) text)
 
 -- the value of a name as it stands alone, one level above the names in a text
-abbrev pub value_alone : Settled → List ℕ → Answer
+abbrev pub value_alone : Conf → List ℕ → Answer
 value_alone settled name = name_value (settled_source settled) (depth_limit + 1) name

@@ -9,7 +9,7 @@ use crate::known::Known;
 use crate::readings::{Reading, reading_of};
 use crate::refusals::{lesser, refusal_of};
 use pf_base::{Bytes, Cause, List, Meaning, NoMemory, Refused};
-use pf_catalogue::{Kind, Row, Value, param, param_row};
+use pf_catalogue::{Kind, Row, param};
 use std::alloc::Global;
 
 /// A class: its name, the line of its last setting, and its items.
@@ -27,18 +27,6 @@ pub(crate) struct Classes {
     pub(crate) refusal: Option<Refused>,
 }
 
-// The items that a value has.
-fn items_in(alloc: Global, value: Value) -> List<Bytes>
-    ensures { result ≡ parameters.items_in value }
-{
-    match value {
-        Value::Items(items) => items,
-        Value::Text => List::new(alloc),
-        Value::Number(_) => List::new(alloc),
-        Value::Yes(_) => List::new(alloc),
-    }
-}
-
 /// The names of the classes, as smtpd_restriction_classes lists them.
 pub(crate) fn class_names(alloc: Global, known: &Known) -> Result<List<Bytes>, NoMemory>
     ensures { IfOk result (λ names. names ≡ spec.class_names known.now) }
@@ -46,9 +34,9 @@ pub(crate) fn class_names(alloc: Global, known: &Known) -> Result<List<Bytes>, N
     let Some(p) = param(b"smtpd_restriction_classes") else {
         return Ok(List::new(alloc));
     };
-    match reading_of(alloc, known, param_row(p))? {
+    match reading_of(alloc, known, p.row())? {
         Err(_) => Ok(List::new(alloc)),
-        Ok(reading) => Ok(items_in(alloc, reading.value)),
+        Ok(reading) => Ok(reading.value.into_items(alloc)),
     }
 }
 
@@ -85,7 +73,7 @@ fn add_class(
         Ok(reading) => classes.held.push(Class {
             name: name.copy(alloc)?,
             line: reading.line,
-            items: items_in(alloc, reading.value),
+            items: reading.value.into_items(alloc),
         })?,
         Err(cause) => {
             let refusal = refusal_of(alloc, known, name.as_slice(), cause)?;

@@ -1,13 +1,15 @@
 //! The settings of a main.cf and those that count after them, with what is known of the values of their names.
 ghost use Rattle.std.specs.Prelude.{◌≡◌, ◌++◌, map, IfOk, OnOk};
 ghost use Rattle.std.specs.Option.{option_copied};
+ghost use Rattle.pf_base.specs.Clauses.Unless.{Unless};
 ghost use Rattle.pf_expand.specs.Names.{expanded};
-ghost use Rattle.pf_maincf.specs.Settings.{last_setting};
-ghost use Rattle.pf_params.specs.Parameters.{is_set};
+ghost use Rattle.pf_maincf.specs.Clauses.Faults.{as_fault};
+ghost use Rattle.pf_maincf.specs.Settings.{is_set, last_setting, line_of};
 ghost use Rattle.pf_params.specs.Settled as spec;
 
+use crate::refusals::text_refused;
 use crate::table::{set_names, set_presets};
-use pf_base::{Bytes, List, NoMemory};
+use pf_base::{Bytes, ConfFault, List, NoMemory};
 use pf_expand::{Flaw, Names, Values};
 use pf_maincf::{MainCf, Setting};
 use std::alloc::Global;
@@ -17,20 +19,20 @@ use std::marker::Model;
 /// values of names. A contract sees the name of the file and all settings in order.
 #[derive(Drop)]
 pub struct Known {
-    file: Bytes,
-    settings: List<Setting>,
+    main: MainCf,
     values: Values,
 }
 
 impl Model for Known {
     ghost use Rattle.pf_expand.specs.Clauses.Meanings.{AreNames};
-    ghost use Rattle.pf_params.specs.Settled.{Settled, settled_source};
+    ghost use Rattle.pf_maincf.specs.Settings.{Conf};
+    ghost use Rattle.pf_params.specs.Settled.{settled_source};
 
-    ghost Value = { Settled };
+    ghost Value = { Conf };
 
-    ghost view = { λ s. record { file = s.file; settings = s.settings } };
+    ghost view = { λ s. s.main };
 
-    ghost invariant = { λ s. AreNames s.values (settled_source (record { file = s.file; settings = s.settings })) };
+    ghost invariant = { λ s. AreNames s.values (settled_source s.main) };
 }
 
 // Adds settings behind others, at line 0 where they stand in no file.
@@ -65,44 +67,60 @@ impl Known {
         set_presets(alloc, &mut names)?;
         set_names(alloc, &mut names, settings.as_slice())?;
         let values = Values::new(alloc, names)?;
-        Ok(Known {
-            file: main.file().copy(alloc)?,
-            settings,
-            values,
-        })
+        let main = MainCf::new(alloc, main.file().copy(alloc)?, settings)?;
+        Ok(Known { main, values })
     }
 
     /// The name of the file.
     pub fn file(&self) -> &Bytes
         ensures { result.now ≡ self.now.file }
     {
-        &self.file
+        self.main.file()
+    }
+
+    /// All settings in order.
+    pub fn settings(&self) -> &List<Setting>
+        ensures { result.now ≡ self.now.settings }
+    {
+        self.main.settings()
     }
 
     /// The last setting of a name, which is the one that counts; None where it is not set.
     pub fn last(&self, name: &[u8]) -> Option<&Setting>
         ensures { option_copied result ≡ last_setting self.now.settings name.now }
     {
-        self.settings
-            .as_slice()
-            .iter()
-            .rev()
-            .find(|setting| setting.name.as_slice() == name)
+        self.main.last(name)
     }
 
     /// Whether a name is set.
     pub fn is_set(&self, name: &[u8]) -> bool
         ensures { result ≡ is_set self.now name.now }
     {
-        self.last(name).is_some()
+        self.main.is_set(name)
     }
 
-    /// The value of a text, or why there is none.
-    pub(crate) fn text_value(
-        &self,
-        alloc: Global,
-        text: &[u8],
-    ) -> Result<Result<Bytes, Flaw>, NoMemory>
+    /// The line of the last setting of a name, 0 where it stands in no file or is not set.
+    pub fn line(&self, name: &[u8]) -> u64
+        ensures { result ≡ line_of self.now name.now }
+    {
+        self.main.line(name)
+    }
+
+    /// The value of a text in which names stand for the values of their settings, and of the defaults of parameters that are
+    /// not set (postconf(5), main.cf format). Where a dollar sign begins no form it is refused as C5, where names are nested
+    /// more than 100 deep as C4, and where a value is longer than 1,048,576 bytes as C16, each with line 0 and no name.
+    pub fn expand(&self, alloc: Global, text: &[u8]) -> Result<Bytes, ConfFault>
+        ensures { Unless result ConfFault.NoMemory (λ r. r ≡ as_fault (spec.value_in self.now text.now)) }
+    {
+        match self.text_value(alloc, text) {
+            Err(NoMemory) => Err(ConfFault::NoMemory),
+            Ok(Ok(bytes)) => Ok(bytes),
+            Ok(Err(flaw)) => Err(text_refused(alloc, self.file(), flaw)),
+        }
+    }
+
+    // The value of a text, or why there is none.
+    fn text_value(&self, alloc: Global, text: &[u8]) -> Result<Result<Bytes, Flaw>, NoMemory>
         ensures { IfOk result (λ value. value ≡ expanded (spec.settled_source self.now) text.now) }
     {
         self.values.text(alloc, text)

@@ -6,7 +6,7 @@ ghost use Rattle.pf_params.specs.Accepted as spec;
 
 use crate::settings::Settings;
 use pf_base::{NoMemory, Specs};
-use pf_catalogue::{Kind, PARAMS, Param, Value, add_tables, kind_of, param, param_at};
+use pf_catalogue::{Kind, PARAMS, Param, add_tables, param};
 use std::alloc::Global;
 
 impl Settings {
@@ -15,21 +15,14 @@ impl Settings {
         ensures { OnOk result (specs.new ≡ spec.with_parameter self.now specs.old (row_at p)) }
     {
         let reading = self.reading(p);
-        match &reading.value {
-            Value::Items(items) => {
-                add_tables(alloc, specs, kind_of(p), reading.line, items.as_slice())
-            }
-            Value::Text => Ok(()),
-            Value::Number(_) => Ok(()),
-            Value::Yes(_) => Ok(()),
-        }
+        add_tables(alloc, specs, p.kind(), reading.line, reading.value.items())
     }
 
     // Adds those of a parameter that is no restriction list.
     fn add_if_plain(&self, alloc: Global, specs: &mut Specs, p: Param) -> Result<(), NoMemory>
         ensures { OnOk result (specs.new ≡ spec.with_plain self.now specs.old (row_at p)) }
     {
-        match kind_of(p) {
+        match p.kind() {
             Kind::Restrictions => Ok(()),
             _ => self.add_parameter(alloc, specs, p),
         }
@@ -40,7 +33,7 @@ impl Settings {
         ensures { OnOk result (specs.new ≡ fold (spec.with_plain self.now) specs.old catalogue) }
     {
         for place in 0..PARAMS {
-            self.add_if_plain(alloc, specs, param_at(place))?;
+            self.add_if_plain(alloc, specs, Param::at(place))?;
         }
         Ok(())
     }

@@ -6,9 +6,9 @@ ghost use Rattle.pf_params.specs.Clauses.Readings as turns;
 ghost use Rattle.pf_params.specs.Parameters as spec;
 
 use crate::known::Known;
-use crate::refusals::{bad_value, cause_of, line_of, refusal_of};
+use crate::refusals::{bad_value, cause_of, refusal_of};
 use pf_base::{Bytes, Cause, List, Meaning, NoMemory, Refused};
-use pf_catalogue::{Kind, PARAMS, Param, Row, Value, param_at, param_row, value_of};
+use pf_catalogue::{Kind, PARAMS, Param, Row, Value, value_of};
 use std::alloc::Global;
 
 /// What is read of a parameter: the line of its last setting, from 1, 0 where it stands in no file or is not set; its text
@@ -61,7 +61,7 @@ fn reading_with(
     }
     let raw = raw_text(alloc, known, row, &text)?;
     Ok(Ok(Reading {
-        line: line_of(known, row.0),
+        line: known.line(row.0),
         raw,
         text,
         value,
@@ -89,7 +89,7 @@ impl Known {
     pub fn reading(&self, alloc: Global, p: Param) -> Result<Result<Reading, Cause>, NoMemory>
         ensures { IfOk result (λ reading. reading ≡ spec.reading_of self.now (row_at p)) }
     {
-        reading_of(alloc, self, param_row(p))
+        reading_of(alloc, self, p.row())
     }
 
     /// The refusal of a name's setting, with the line of the last one, 0 where it stands in no file or is not set.
@@ -109,7 +109,7 @@ pub(crate) fn readings_of(
 {
     let mut readings = List::new(alloc);
     for place in 0..PARAMS {
-        let row = param_row(param_at(place));
+        let row = Param::at(place).row();
         match reading_of(alloc, known, row)? {
             Ok(reading) => readings.push(reading)?,
             Err(cause) => return Ok(Err(refusal_of(alloc, known, row.0, cause)?)),

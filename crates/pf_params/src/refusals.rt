@@ -46,16 +46,6 @@ pub(crate) fn text_refused(alloc: Global, file: &Bytes, flaw: Flaw) -> ConfFault
     }
 }
 
-/// The line of the last setting of a name, 0 where it is not set.
-pub(crate) fn line_of(known: &Known, name: &[u8]) -> u64
-    ensures { result ≡ spec.line_of known.now name.now }
-{
-    match known.last(name) {
-        None => 0,
-        Some(setting) => setting.line,
-    }
-}
-
 /// The refusal of a name's setting.
 pub(crate) fn refusal_of(
     alloc: Global,
@@ -67,7 +57,7 @@ pub(crate) fn refusal_of(
 {
     Ok(Refused {
         file: known.file().copy(alloc)?,
-        line: line_of(known, name),
+        line: known.line(name),
         cause,
         name: Bytes::from_slice(alloc, name)?,
     })

@@ -8,6 +8,7 @@ ghost use Rattle.pf_catalogue.specs.Values.{IsNumberOf, are_items};
 ghost use Rattle.pf_catalogue.specs.declared.kind.Kind.TheVariants as kind;
 ghost use Rattle.pf_catalogue.specs.declared.value.Value.TheVariants as value;
 ghost use Rattle.pf_maincf.specs.Clauses.Faults.{as_fault};
+ghost use Rattle.pf_maincf.specs.Settings.{line_of};
 ghost use Rattle.pf_params.specs.Accepted as spec;
 ghost use Rattle.pf_params.specs.Clauses.Readings as turns;
 ghost use Rattle.pf_params.specs.Parameters as parameters;
@@ -16,9 +17,8 @@ ghost use Rattle.pf_params.specs.Settled as settled;
 use crate::classes::{Class, Classes, class_named, class_names, classes_of};
 use crate::known::Known;
 use crate::readings::{Reading, readings_of};
-use crate::refusals::text_refused;
 use pf_base::{Bytes, ConfFault, List, NoMemory, Refused};
-use pf_catalogue::{Param, Value, param_place};
+use pf_catalogue::Param;
 use pf_maincf::{MainCf, Setting};
 use std::alloc::Global;
 use std::marker::Model;
@@ -33,13 +33,13 @@ pub struct Settings {
 }
 
 impl Model for Settings {
+    ghost use Rattle.pf_maincf.specs.Settings.{Conf};
     ghost use Rattle.std.specs.Prelude.{◌≡◌, Ok};
     ghost use Rattle.pf_catalogue.specs.Catalogue.{catalogue};
     ghost use Rattle.pf_params.specs.Accepted.{classes_in};
     ghost use Rattle.pf_params.specs.Clauses.Readings.{readings_of};
-    ghost use Rattle.pf_params.specs.Settled.{Settled};
 
-    ghost Value = { Settled };
+    ghost Value = { Conf };
 
     ghost view = { λ s. s.known };
 
@@ -98,6 +98,13 @@ impl Settings {
         }
     }
 
+    /// The settings as they stand.
+    pub fn known(&self) -> &Known
+        ensures { result.now ≡ self.now }
+    {
+        &self.known
+    }
+
     /// The name of the file.
     pub fn file(&self) -> &Bytes
         ensures { result.now ≡ self.now.file }
@@ -109,7 +116,7 @@ impl Settings {
     pub(crate) fn reading(&self, p: Param) -> &Reading
         ensures { parameters.reading_of self.now (row_at p) ≡ Ok result.now }
     {
-        self.readings.at(u64::from(param_place(p)))
+        self.readings.at(u64::from(p.place()))
     }
 
     /// The text of a parameter's last setting, or its default, before the values of names stand in it.
@@ -129,7 +136,7 @@ impl Settings {
 
     /// The line of a parameter's last setting, from 1; 0 where it stands in no file or is not set.
     pub fn line(&self, p: Param) -> u64
-        ensures { result ≡ parameters.line_of self.now (row_at p).name }
+        ensures { result ≡ line_of self.now (row_at p).name }
     {
         self.reading(p).line
     }
@@ -140,11 +147,9 @@ impl Settings {
         ensures said { spec.said_by self.now (row_at p) ≡ Some (value.Number result) }
         ensures kind { IsNumberOf (row_at p).kind result }
     {
-        match &self.reading(p).value {
-            Value::Number(number) => *number,
-            Value::Text => unreachable!(),
-            Value::Yes(_) => unreachable!(),
-            Value::Items(_) => unreachable!(),
+        match self.reading(p).value.number() {
+            Some(number) => number,
+            None => unreachable!(),
         }
     }
 
@@ -153,11 +158,9 @@ impl Settings {
         requires { (row_at p).kind ≡ kind.Yes }
         ensures { spec.said_by self.now (row_at p) ≡ Some (value.Yes result) }
     {
-        match &self.reading(p).value {
-            Value::Yes(yes) => *yes,
-            Value::Text => unreachable!(),
-            Value::Number(_) => unreachable!(),
-            Value::Items(_) => unreachable!(),
+        match self.reading(p).value.answer() {
+            Some(yes) => yes,
+            None => unreachable!(),
         }
     }
 
@@ -167,11 +170,9 @@ impl Settings {
         ensures items { result.now ≡ spec.items_of self.now (row_at p) }
         ensures kind { are_items (row_at p).kind result.now ≡ true }
     {
-        match &self.reading(p).value {
-            Value::Items(items) => items,
-            Value::Text => unreachable!(),
-            Value::Number(_) => unreachable!(),
-            Value::Yes(_) => unreachable!(),
+        match self.reading(p).value.list() {
+            Some(items) => items,
+            None => unreachable!(),
         }
     }
 
@@ -208,10 +209,6 @@ impl Settings {
     pub fn expand(&self, alloc: Global, text: &[u8]) -> Result<Bytes, ConfFault>
         ensures { Unless result ConfFault.NoMemory (λ r. r ≡ as_fault (settled.value_in self.now text.now)) }
     {
-        match self.known.text_value(alloc, text) {
-            Err(NoMemory) => Err(ConfFault::NoMemory),
-            Ok(Ok(bytes)) => Ok(bytes),
-            Ok(Err(flaw)) => Err(text_refused(alloc, self.known.file(), flaw)),
-        }
+        self.known.expand(alloc, text)
     }
 }

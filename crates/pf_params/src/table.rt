@@ -8,7 +8,7 @@ ghost use Rattle.pf_expand.specs.Names.{with_source};
 ghost use Rattle.pf_params.specs.Sources.{preset_of, source_of};
 
 use pf_base::{Meaning, NoMemory};
-use pf_catalogue::{PARAMS, Param, param_at, param_row};
+use pf_catalogue::{PARAMS, Param};
 use pf_expand::Names;
 use pf_maincf::Setting;
 use std::alloc::Global;
@@ -18,7 +18,7 @@ fn set_preset(alloc: Global, names: &mut Names, p: Param) -> Result<(), NoMemory
     ensures { OnOk result ((sources : Seq ℕ → Source) → AreNames names.old sources
         → AreNames names.new (with_source sources (row_at p).name (row_at p).preset)) }
 {
-    let row = param_row(p);
+    let row = p.row();
     names.set(alloc, row.0, row.2)
 }
 
@@ -29,7 +29,7 @@ pub(crate) fn set_presets(alloc: Global, names: &mut Names) -> Result<(), NoMemo
     let mut left = PARAMS;
     while left > 0 {
         left -= 1;
-        set_preset(alloc, names, param_at(left))?;
+        set_preset(alloc, names, Param::at(left))?;
     }
     Ok(())
 }

@@ -1,10 +1,8 @@
-pub mod FileLaws
 pub mod LineLaws
 pub mod OrderLaws
 pub mod PresetLaws
 pub mod ReportLaws
 pub mod Rows
 pub mod RunLaws
-pub mod SettingLaws
 pub mod StatusLaws
 pub mod ValueLaws

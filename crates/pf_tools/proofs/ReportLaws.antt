@@ -7,11 +7,13 @@ use Rattle.pf_base.specs.FileList.{with_file}
 use Rattle.pf_base.specs.Told.{Tree, failed_tree, replaced}
 use Rattle.pf_base.specs.declared.pair.Pair.{Pair}
 use Rattle.pf_base.specs.declared.refused.Refused.{Refused}
-use Rattle.pf_tools.specs.Course.{Kept, Leaves, Unfinished, conf_name, said_in}
+use Rattle.pf_maincf.specs.Clauses.Faults.{Answers}
+use Rattle.pf_maincf.specs.File.{Kept, conf_name}
+use Rattle.pf_maincf.specs.declared.file.FileFault.{FileFault}
+use Rattle.pf_tools.specs.Course.{Leaves, Unfinished, said_in}
 use Rattle.pf_tools.specs.Course.{Course as course}
-use Rattle.pf_tools.specs.Clauses.Reports.{Answers, IsEditReport, Reports, report_of}
-use Rattle.pf_tools.specs.declared.file.FileFault.{FileFault}
-use Rattle.pf_tools.specs.declared.file.FileFault.TheVariants as file_fault
+use Rattle.pf_tools.specs.Clauses.Reports.{IsEditReport, Reports, report_of}
+use Rattle.pf_maincf.specs.declared.file.FileFault.TheVariants as file_fault
 use Rattle.pf_tools.specs.declared.report.Report.{Report}
 use Rattle.pf_tools.specs.declared.said.Said.{Said}
 use Rattle.pf_tools.specs.declared.said.Said.TheVariants as said

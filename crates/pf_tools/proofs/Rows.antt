@@ -1,25 +1,22 @@
 -- Worked examples of the definitions, each by computation.
 use Rattle.std.proofs.Common.{◌≡◌, ℕ, true, false, List, [], ◌∷◌, map, length, None, Some, Ok, Err, refl, codes}
 use Rattle.std.specs.Fmt.{digits}
-use Rattle.std.specs.Str.{chars, is_utf8}
 use Rattle.pf_base.specs.Lines.{lines, rest}
 use Rattle.pf_base.specs.Printing.{printed_line}
 use Rattle.pf_base.specs.Refusal.{cause_text, refusal_line}
 use Rattle.pf_base.specs.Words.{words_of}
-use Rattle.pf_base.specs.declared.pair.Pair.{Pair}
 use Rattle.pf_base.specs.declared.refused.Cause.TheVariants.{C2, C5, C10}
 use Rattle.pf_catalogue.specs.Catalogue.{catalogue}
 use Rattle.pf_maincf.specs.Edit.{edited}
-use Rattle.pf_maincf.specs.Settings.{conf_of}
+use Rattle.pf_maincf.specs.Settings.{Conf, conf_of}
 use Rattle.pf_maincf.specs.declared.setting.Setting.{Setting}
 use Rattle.pf_params.specs.Accepted.{accepted}
 use Rattle.pf_expand.specs.Expansion.{parts, text_value}
 use Rattle.pf_expand.specs.Forms.{first_part, form_of}
 use Rattle.pf_expand.specs.Names.{name_value}
 use Rattle.pf_params.specs.Parameters.{reading_of}
-use Rattle.pf_params.specs.Settled.{Settled}
 use Rattle.pf_tools.specs.Asked.{asked_names, is_known, is_shown, shown_names}
-use Rattle.pf_tools.specs.Course.{Course, bytes_in, conf_name, course_status, log_of, output_of}
+use Rattle.pf_tools.specs.Course.{Course, course_status, log_of, output_of}
 use Rattle.pf_tools.specs.Course.{Course as course}
 use Rattle.pf_tools.specs.Clauses.Ordering.{in_order}
 use Rattle.pf_tools.specs.Printed.{line_text, lines_of}
@@ -39,7 +36,7 @@ words = record { mode = mode.All; expanded = false; shape = shape.Both; folder =
 abbrev at_line : ℕ → List ℕ → List ℕ → Setting
 at_line line name value = record { line = line; name = name; value = value }
 
-abbrev site : Settled
+abbrev site : Conf
 site = record {
   file = codes "main.cf";
   settings = at_line 1 (codes "myhostname") (codes "mx.example.com") ∷ at_line 2 (codes "site") (codes "$mydomain in $town")
@@ -98,7 +95,7 @@ unfolding catalogue name_value text_value parts first_part form_of
 defaults_expanded = refl
 
 -- a value that is none is refused at the last setting of its name; names alone are not expanded
-abbrev flawed : Settled
+abbrev flawed : Conf
 flawed = record site { settings = at_line 1 (codes "a") (codes "$-") ∷ at_line 2 (codes "a") (codes "$b") ∷ at_line 3 (codes "b") (codes "$-") ∷ [] }
 
 first_that_is_refused : map (λ x. lines_of (record words { expanded = x }) flawed (codes "town" ∷ codes "a" ∷ codes "b" ∷ [])) (true ∷ false ∷ [])
@@ -144,17 +141,6 @@ edited_text : file_said file (record words { mode = mode.Edit; rest = codes "a=2
     ≡ Ok (Edited (codes "a = 2\nb = 1\nc = \n"))
 unfolding edited_by edited conf_of lines rest settings_of_words setting_of_word
 edited_text = refl
-
--- the file of the words
-names_of_files : map conf_name (None ∷ Some (codes "/etc/postgate") ∷ Some [] ∷ []) ≡ codes "main.cf" ∷ codes "/etc/postgate/main.cf" ∷ codes "/main.cf" ∷ []
-names_of_files = refl
-
-abbrev files : List Pair
-files = record { key = codes "main.cf"; value = codes "a = 1" } ∷ record { key = codes "x/main.cf"; value = [] } ∷ []
-
-bytes_of_files : map (bytes_in files) (codes "main.cf" ∷ codes "x/main.cf" ∷ codes "y/main.cf" ∷ []) ≡ Some (codes "a = 1") ∷ Some [] ∷ None ∷ []
-unfolding is_utf8 chars lib.Utf8.encode
-bytes_of_files = refl
 
 -- what a course writes, and its status
 abbrev courses : List Course

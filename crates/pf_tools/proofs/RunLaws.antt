@@ -7,9 +7,11 @@ use Rattle.pf_base.proofs.ToldLemmas.{stops_first}
 use Rattle.pf_base.specs.Objects.{Says, objects, sinks, status_of}
 use Rattle.pf_base.specs.Statuses.{HasCauses, counts_of, is_among}
 use Rattle.pf_base.specs.Told.{Input, Output, Tree}
+use Rattle.pf_base.specs.declared.status.TheConstants.{NO_MEMORY}
 use Rattle.pf_base.specs.declared.texts.SinkFault.{SinkFault}
 use Rattle.pf_base.specs.declared.texts.SinkFault.TheVariants as fault
-use Rattle.pf_tools.specs.Course.{Course, Unfinished, conf_name, course_status, is_done, log_of, output_of, said_in, texts_of}
+use Rattle.pf_maincf.specs.File.{conf_name}
+use Rattle.pf_tools.specs.Course.{Course, Unfinished, course_status, is_done, log_of, output_of, said_in, texts_of}
 use Rattle.pf_tools.specs.Course.{Course as course}
 use Rattle.pf_tools.specs.Clauses.Reports.{Reports}
 use Rattle.pf_tools.proofs.StatusLaws.{completes, course_spoken, files_cause, memory_is_free, status_known}
@@ -64,7 +66,7 @@ module _ (words : ConfWords) (before now : Tree) (input : Input) (mail out log :
 
   -- memory was wanting before there was anything to write
   pub runs_short : Unfinished words before now → (is_edit words.mode ≡ false → now.content ≡ before.content)
-      → PostconfRun words (objects input out mail log before) (objects input out mail log now) 9
+      → PostconfRun words (objects input out mail log before) (objects input out mail log now) NO_MEMORY
   runs_short left same = record {
     courses = left.courses;
     said = Err fault.NoMemory;

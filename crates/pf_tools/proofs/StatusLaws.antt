@@ -7,6 +7,7 @@ use Rattle.pf_base.specs.Statuses.{Counts, HasCauses, NoneRose, is_among}
 use Rattle.pf_base.specs.Told.{Tree}
 use Rattle.pf_base.specs.declared.pair.Pair.{Pair}
 use Rattle.pf_base.specs.declared.refused.Refused.{Refused}
+use Rattle.pf_base.specs.declared.status.TheConstants.{DONE, FILES_FAILED, NO_MEMORY, WARNED}
 use Rattle.pf_base.specs.declared.texts.SinkFault.{SinkFault}
 use Rattle.pf_base.specs.declared.texts.SinkFault.TheVariants as fault
 use Rattle.pf_tools.specs.Course.{Course, IsCourse, Leaves, course_status, printed_status, said_in, texts_of}
@@ -17,7 +18,7 @@ use Rattle.pf_tools.specs.declared.said.Said.TheVariants as said
 use Rattle.pf_words.specs.declared.postconf.ConfWords.{ConfWords}
 
 -- the status of lines that are printed is one of two
-by_warnings : (P : ℕ → Type 0) → P 0 → P 1 → (warnings : List ℕ) → P (printed_status warnings)
+by_warnings : (P : ℕ → Type 0) → P DONE → P WARNED → (warnings : List ℕ) → P (printed_status warnings)
 by_warnings P none some [] = none
 by_warnings P none some (b ∷ warnings) = some
 
@@ -51,7 +52,7 @@ status_known file c old new (Err fault.NoMemory) says = refl
 -- what the status of a course says of the files
 pub files_cause : (file : List ℕ) (c : Course) (before now : Tree) → Leaves file c before now → FilesCause before now (course_status c)
 files_cause file (course.prints lines warnings) before now left =
-    record { once = inl left.1; failed = λ is. absurd (by_warnings (λ s. s ≡ 8 → ⊥) (λ e. cc) (λ e. cc) warnings is); kept = λ is. left.1 }
+    record { once = inl left.1; failed = λ is. absurd (by_warnings (λ s. s ≡ FILES_FAILED → ⊥) (λ e. cc) (λ e. cc) warnings is); kept = λ is. left.1 }
 files_cause file (course.edits text) before now left = record { once = inl left.1; failed = λ is. cc; kept = λ is. left.1 }
 files_cause file (course.refuses refusal) before now left = record { once = inl left.1; failed = λ is. cc; kept = λ is. left.1 }
 files_cause file course.unread before now left = record { once = inr left.1; failed = λ is. left.1; kept = λ is. cc }
@@ -62,8 +63,8 @@ files_cause file (course.starves_editing text) before now (inl left) = record { 
 files_cause file (course.starves_editing text) before now (inr left) = record { once = inl left.1; failed = λ is. cc; kept = λ is. cc }
 
 -- memory may be wanting whatever is said
-pub memory_is_free : (answer : Result Said Refused) → is_among (statuses_by answer) 9 ≡ true
-memory_is_free (Ok (said.Printed lines warnings)) = by_warnings (λ s. is_among (s ∷ 9 ∷ []) 9 ≡ true) refl refl warnings
+pub memory_is_free : (answer : Result Said Refused) → is_among (statuses_by answer) NO_MEMORY ≡ true
+memory_is_free (Ok (said.Printed lines warnings)) = by_warnings (λ s. is_among (s ∷ NO_MEMORY ∷ []) NO_MEMORY ≡ true) refl refl warnings
 memory_is_free (Ok (said.Edited text)) = refl
 memory_is_free (Err refusal) = refl
 
@@ -73,7 +74,7 @@ module _ (words : ConfWords) (content : Option (List Pair)) (before now : Counts
       → (files : List Pair) → content ≡ Some files → NoneRose before now → is_among (statuses_by (said_in words files)) status ≡ true
   completes c is (Err why) status_is files told none = rw (none_stopped why status_is causes none) (memory_is_free (said_in words files))
   completes (course.prints lines warnings) is (Ok x) status_is files told none =
-      rw (status_is, is files told) (by_warnings (λ s. is_among (s ∷ 9 ∷ []) s ≡ true) refl refl warnings)
+      rw (status_is, is files told) (by_warnings (λ s. is_among (s ∷ NO_MEMORY ∷ []) s ≡ true) refl refl warnings)
   completes (course.edits text) is (Ok x) status_is files told none = rw (status_is, is files told) refl
   completes (course.refuses refusal) is (Ok x) status_is files told none = rw (status_is, is files told) refl
   completes course.unread is (Ok x) status_is files told none = absurd (none.files (causes.files status_is))

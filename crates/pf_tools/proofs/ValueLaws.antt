@@ -10,8 +10,9 @@ use Rattle.pf_base.specs.Meanings.{Source}
 use Rattle.pf_base.specs.declared.meaning.Meaning.TheVariants.{Is, DomainOf}
 use Rattle.pf_expand.specs.Names.{depth_limit, domain_in, domain_of, name_value, past_dot, source_value}
 use Rattle.pf_maincf.specs.Clauses.Faults.{as_fault}
+use Rattle.pf_maincf.specs.Settings.{Conf}
 use Rattle.pf_params.specs.Settled as settled
-use Rattle.pf_params.specs.Settled.{Settled, or_refused, settled_source}
+use Rattle.pf_params.specs.Settled.{or_refused, settled_source}
 use Rattle.pf_expand.specs.declared.flaw.Flaw.TheVariants.{TooLong}
 use Rattle.pf_tools.specs.Values.{value_in}
 
@@ -68,7 +69,7 @@ one_name : (values : List ℕ → Answer) → text_value values (36 ∷ codes "m
 unfolding text_value parts first_part form_of
 one_name values = refl
 
-module _ (s : Settled) (host : List ℕ) (is : host ≡ codes "myhostname") where
+module _ (s : Conf) (host : List ℕ) (is : host ≡ codes "myhostname") where
   host_value : settled.value_in s (36 ∷ host) ≡ or_refused s.file (name_value (settled_source s) depth_limit host)
   host_value =
       let values : List ℕ → Answer = name_value (settled_source s) depth_limit in

@@ -1,28 +1,16 @@
--- The course that a run of postconf can take, what is written in it, and what it leaves of the files (postconf(1)). The statuses, and the lines of
--- calls on files that failed, are postgate's own.
-use Rattle.std.specs.Prelude.{◌≡◌, ◌⊎◌, ℕ, ◌++◌, Bool, true, false, List, [], ◌∷◌, Option, None, Some, Result, Ok, Err, codes, if◌then◌else◌}
-use Rattle.std.specs.Str.{is_utf8}
-use Rattle.pf_base.specs.FileList.{file_of}
-use Rattle.pf_base.specs.Printing.{printed_line}
+-- The course that a run of postconf can take, what is written in it, and what it leaves of the files (postconf(1)). The statuses are postgate's own.
+use Rattle.std.specs.Prelude.{◌≡◌, ◌⊎◌, ℕ, Bool, true, false, List, [], ◌∷◌, Option, Some, Result, Ok, Err, codes}
 use Rattle.pf_base.specs.Refusal.{refusal_line}
 use Rattle.pf_base.specs.Told.{Tree, failed_tree, replaced}
 use Rattle.pf_base.specs.declared.pair.Pair.{Pair}
 use Rattle.pf_base.specs.declared.refused.Refused.{Refused}
 use Rattle.pf_base.specs.declared.status.TheConstants.{DONE, FILES_FAILED, NO_MEMORY, REFUSED, WARNED}
 use Rattle.pf_base.specs.declared.texts.Texts.{Texts}
+use Rattle.pf_maincf.specs.File.{Kept, bytes_in, conf_name, failed_line}
 use Rattle.pf_tools.specs.Said.{file_said}
 use Rattle.pf_tools.specs.declared.said.Said.{Said}
 use Rattle.pf_tools.specs.declared.said.Said.TheVariants as said
 use Rattle.pf_words.specs.declared.postconf.ConfWords.{ConfWords}
-
--- the name of main.cf: it stands in the folder of -c
-abbrev pub conf_name : Option (List ℕ) → List ℕ
-conf_name None = codes "main.cf"
-conf_name (Some folder) = folder ++ codes "/main.cf"
-
--- the bytes of a file, if it is there; a name that is no UTF-8 is the name of none
-abbrev pub bytes_in : List Pair → List ℕ → Option (List ℕ)
-bytes_in files file = if is_utf8 file then file_of files file else None
 
 -- what is said of main.cf, where the files tell
 abbrev pub said_in : ConfWords → List Pair → Result Said Refused
@@ -58,10 +46,6 @@ abbrev pub output_of : Course → List ℕ
 output_of (prints lines warnings) = lines
 output_of other = []
 
--- the line of a call on a file that failed
-abbrev pub failed_line : List ℕ → List ℕ → List ℕ
-failed_line file call = printed_line (codes "postgate: " ++ file ++ codes ": " ++ call ++ codes " failed")
-
 -- the log
 abbrev pub log_of : List ℕ → Course → List ℕ
 log_of file (prints lines warnings) = warnings
@@ -90,10 +74,6 @@ course_status unread = FILES_FAILED
 course_status (unreplaced text) = FILES_FAILED
 course_status starves = NO_MEMORY
 course_status (starves_editing text) = NO_MEMORY
-
--- the file was read, and no call on the files failed
-abbrev pub Kept : Tree → Tree → Type 0
-Kept before now = (now.content ≡ before.content) × (now.faults ≡ before.faults)
 
 -- what a course leaves of the files, and why it is taken: a call on them failed just once where the file can't be read or the text can't be put in its
 -- place, and else none; where it could not be put there it may stand there all the same

@@ -5,7 +5,7 @@ use Rattle.pf_base.specs.Ascii as ascii
 use Rattle.pf_base.specs.Printing.{printed_line}
 use Rattle.pf_base.specs.Results.{◌>>=◌}
 use Rattle.pf_base.specs.declared.refused.Refused.{Refused}
-use Rattle.pf_params.specs.Settled.{Settled}
+use Rattle.pf_maincf.specs.Settings.{Conf}
 use Rattle.pf_tools.specs.Asked.{is_known, is_shown}
 use Rattle.pf_tools.specs.Values.{value_shown}
 use Rattle.pf_words.specs.declared.postconf.ConfWords.{ConfWords}
@@ -24,16 +24,16 @@ line_text shape.Values name value = value
 line_text shape.Names name value = name
 
 -- the line of a name that is shown; of another name nothing
-abbrev pub shown_line : ConfWords → Settled → List ℕ → Result (List ℕ) Refused
+abbrev pub shown_line : ConfWords → Conf → List ℕ → Result (List ℕ) Refused
 shown_line words s name = do
   value ← value_shown words s name
   Ok (line_text words.shape name value ++ ascii.line_feed ∷ [])
 
-abbrev pub line_of : ConfWords → Settled → List ℕ → Result (List ℕ) Refused
+abbrev pub line_of : ConfWords → Conf → List ℕ → Result (List ℕ) Refused
 line_of words s name = if is_shown words.mode s name then shown_line words s name else Ok []
 
 -- the lines of names, or the first refusal of one
-abbrev pub lines_of : ConfWords → Settled → List (List ℕ) → Result (List ℕ) Refused
+abbrev pub lines_of : ConfWords → Conf → List (List ℕ) → Result (List ℕ) Refused
 lines_of words s [] = Ok []
 lines_of words s (name ∷ names) = do
   line ← line_of words s name
@@ -41,9 +41,9 @@ lines_of words s (name ∷ names) = do
   Ok (line ++ lines)
 
 -- the warning of a name that is not known
-abbrev pub warning_of : Settled → List ℕ → List ℕ
+abbrev pub warning_of : Conf → List ℕ → List ℕ
 warning_of s name = if is_known s name then [] else printed_line (codes "postgate: warning: " ++ name ++ codes ": unknown parameter")
 
 -- the warnings of names
-abbrev pub warnings_of : Settled → List (List ℕ) → List ℕ
+abbrev pub warnings_of : Conf → List (List ℕ) → List ℕ
 warnings_of s names = flat_map (warning_of s) names

@@ -6,7 +6,8 @@ use Rattle.pf_base.specs.declared.pair.Pair.{Pair}
 use Rattle.pf_base.specs.declared.refused.Refused.{Refused}
 use Rattle.pf_base.specs.declared.status.TheConstants.{DONE, FILES_FAILED, LOG_FAILED, NO_MEMORY, OUT_FAILED, REFUSED, WARNED}
 use Rattle.pf_base.specs.declared.texts.SinkFault.{SinkFault}
-use Rattle.pf_tools.specs.Course.{Courses, conf_name, course_status, is_done, output_of, printed_status, said_in, texts_of}
+use Rattle.pf_maincf.specs.File.{conf_name}
+use Rattle.pf_tools.specs.Course.{Courses, course_status, is_done, output_of, printed_status, said_in, texts_of}
 use Rattle.pf_tools.specs.declared.said.Said.{Said}
 use Rattle.pf_tools.specs.declared.said.Said.TheVariants as said
 use Rattle.pf_words.specs.Postconf.{is_edit}

@@ -1,16 +1,13 @@
--- What postconf says of a main.cf (postconf(1)). The causes of refusals, and the most bytes of a file, are postgate's own.
-use Rattle.std.specs.Prelude.{ℕ, Bool, true, false, nat_lt, List, [], Option, None, Some, Result, Ok, Err, length, if◌then◌else◌}
+-- What postconf says of a main.cf (postconf(1)). The causes of refusals are postgate's own.
+use Rattle.std.specs.Prelude.{ℕ, Bool, true, false, List, [], Option, None, Some, Result, Ok, if◌then◌else◌}
 use Rattle.std.specs.Option.{option_to_list, unwrap_or}
-use Rattle.pf_base.specs.FileList.{file_limit}
 use Rattle.pf_base.specs.Results.{◌>>=◌}
-use Rattle.pf_base.specs.declared.refused.Cause.{Cause}
-use Rattle.pf_base.specs.declared.refused.Cause.TheVariants.{C10, C15}
 use Rattle.pf_base.specs.declared.refused.Refused.{Refused}
 use Rattle.pf_maincf.specs.Edit.{edited}
-use Rattle.pf_maincf.specs.Settings.{conf_of}
+use Rattle.pf_maincf.specs.File.{conf_text}
+use Rattle.pf_maincf.specs.Settings.{Conf, conf_of}
 use Rattle.pf_maincf.specs.declared.setting.Setting.{Setting}
 use Rattle.pf_params.specs.Accepted.{accepted}
-use Rattle.pf_params.specs.Settled.{Settled}
 use Rattle.pf_tools.specs.Asked.{asked_names}
 use Rattle.pf_tools.specs.Printed.{lines_of, warnings_of}
 use Rattle.pf_tools.specs.declared.said.Said.{Said}
@@ -25,7 +22,7 @@ is_edited (Printed lines warnings) = false
 is_edited (Edited text) = true
 
 -- the lines and the warnings of names
-abbrev pub printed_of : ConfWords → Settled → List (List ℕ) → Result Said Refused
+abbrev pub printed_of : ConfWords → Conf → List (List ℕ) → Result Said Refused
 printed_of words s names = do
   lines ← lines_of words s names
   Ok (Printed lines (warnings_of s names))
@@ -55,15 +52,6 @@ edited_by file words text = do
 -- what is said of a main.cf that was read
 abbrev pub text_said : List ℕ → ConfWords → List ℕ → Result Said Refused
 text_said file words text = if is_edit words.mode then edited_by file words text else printed file words text
-
--- the refusal of a whole file, which names it
-abbrev pub file_refused : List ℕ → Cause → Refused
-file_refused file cause = record { file = file; line = 0; cause = cause; name = file }
-
--- the text of a main.cf of this name with these bytes, if it is there
-abbrev pub conf_text : List ℕ → Option (List ℕ) → Result (List ℕ) Refused
-conf_text file None = Err (file_refused file C10)
-conf_text file (Some bytes) = if nat_lt file_limit (length bytes) then Err (file_refused file C15) else Ok bytes
 
 -- what is said of it
 abbrev pub file_said : List ℕ → ConfWords → Option (List ℕ) → Result Said Refused

@@ -5,8 +5,9 @@ use Rattle.pf_base.specs.declared.meaning.Meaning.TheVariants.{Is, DomainOf}
 use Rattle.pf_base.specs.declared.refused.Refused.{Refused}
 use Rattle.pf_expand.specs.Expansion.{Answer}
 use Rattle.pf_expand.specs.Names.{depth_limit, name_value, source_value}
-use Rattle.pf_params.specs.Parameters.{line_of, refusal_of}
-use Rattle.pf_params.specs.Settled.{Settled, cause_of, settled_source}
+use Rattle.pf_maincf.specs.Settings.{Conf, line_of}
+use Rattle.pf_params.specs.Parameters.{refusal_of}
+use Rattle.pf_params.specs.Settled.{cause_of, settled_source}
 use Rattle.pf_params.specs.Sources.{preset_of}
 use Rattle.pf_words.specs.declared.postconf.ConfMode.{ConfMode}
 use Rattle.pf_words.specs.declared.postconf.ConfMode.TheVariants as mode
@@ -15,26 +16,26 @@ use Rattle.pf_words.specs.declared.postconf.Shape.{Shape}
 use Rattle.pf_words.specs.declared.postconf.Shape.TheVariants as shape
 
 -- what a name stands for: with -d by default, and else where the settings count
-abbrev pub source_in : ConfMode → Settled → List ℕ → Source
+abbrev pub source_in : ConfMode → Conf → List ℕ → Source
 source_in mode.Defaults s name = preset_of name
 source_in mode s name = settled_source s name
 
 -- the value of what a name stands for
-abbrev pub value_in : Settled → Source → Answer
+abbrev pub value_in : Conf → Source → Answer
 value_in s what = source_value (name_value (settled_source s) depth_limit) what
 
 -- what is shown of it: with -x its value, and else its text, where it is one
-abbrev pub shown : Bool → Settled → Source → Answer
+abbrev pub shown : Bool → Conf → Source → Answer
 shown expanded s (Is bytes) = if expanded then value_in s (Is bytes) else Ok bytes
 shown expanded s (DomainOf name) = value_in s (DomainOf name)
 
 -- the line of the setting that is shown of a name; a default stands in none
-abbrev pub line_in : ConfMode → Settled → List ℕ → ℕ
+abbrev pub line_in : ConfMode → Conf → List ℕ → ℕ
 line_in mode.Defaults s name = 0
 line_in mode s name = line_of s name
 
 -- a value of a name, or the refusal of its setting
-abbrev pub unless_flawed : ConfMode → Settled → List ℕ → Answer → Result (List ℕ) Refused
+abbrev pub unless_flawed : ConfMode → Conf → List ℕ → Answer → Result (List ℕ) Refused
 unless_flawed mode s name (Ok value) = Ok value
 unless_flawed mode s name (Err flaw) = Err (record (refusal_of s name (cause_of flaw)) { line = line_in mode s name })
 
@@ -44,7 +45,7 @@ is_names shape.Names = true
 is_names other = false
 
 -- the value that is printed of a name, or its refusal; with -H none is
-abbrev pub value_shown : ConfWords → Settled → List ℕ → Result (List ℕ) Refused
+abbrev pub value_shown : ConfWords → Conf → List ℕ → Result (List ℕ) Refused
 value_shown words s name =
     if is_names words.shape then Ok []
     else unless_flawed words.mode s name (shown words.expanded s (source_in words.mode s name))

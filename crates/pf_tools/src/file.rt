@@ -1,75 +1,18 @@
-//! main.cf as a file.
-ghost use Rattle.std.specs.Prelude.{◌≡◌, ◌≢◌, List as Seq, Some, Err, true, false, IfOk};
+//! What is said of main.cf as a file.
+ghost use Rattle.std.specs.Prelude.{◌≡◌, ◌≢◌, List as Seq, Some, Err, true, IfOk};
 ghost use Rattle.std.specs.Str.{IsUtf8};
 ghost use Rattle.pf_base.specs.Told.{failed_tree};
 ghost use Rattle.pf_base.specs.declared.pair.Pair.{Pair};
-ghost use Rattle.pf_tools.specs.Course as course;
-ghost use Rattle.pf_tools.specs.Course.{Kept, bytes_in};
-ghost use Rattle.pf_tools.specs.Clauses.Reports.{Answers};
+ghost use Rattle.pf_maincf.specs.Clauses.Faults.{Answers};
+ghost use Rattle.pf_maincf.specs.File.{Kept, bytes_in};
 ghost use Rattle.pf_tools.specs.Said as spec;
 ghost use Rattle.pf_words.specs.Postconf.{is_edit, sets_parameters};
 
 use crate::said::{Said, text_said};
-use pf_base::{Bytes, Cause, ConfFault, Files, NoMemory, ReadFault, Refused, add_line, read_all};
+use pf_base::{ConfFault, Files};
+use pf_maincf::{FileFault, conf_text};
 use pf_words::ConfWords;
 use std::alloc::Global;
-
-/// Why main.cf is not accepted.
-#[derive(Debug, Drop)]
-pub enum FileFault {
-    /// It is refused.
-    Refused(Refused),
-    /// A call on the files failed.
-    Failed,
-    /// Memory was wanting.
-    NoMemory,
-}
-
-/// The name of main.cf in the folder of `-c`, as both stand, with `/` between them; `main.cf` alone where there is none
-/// (postconf(1), -c).
-pub fn conf_name(alloc: Global, folder: &Option<Bytes>) -> Result<Bytes, NoMemory>
-    ensures { IfOk result (λ file. file ≡ course.conf_name folder.now) }
-{
-    match folder {
-        None => Bytes::from_slice(alloc, b"main.cf"),
-        Some(folder) => {
-            let mut file = folder.copy(alloc)?;
-            file.extend(b"/main.cf")?;
-            Ok(file)
-        }
-    }
-}
-
-/// The line of a call on the file of this name that failed.
-pub fn failed_line(alloc: Global, file: &[u8], call: &[u8]) -> Result<Bytes, NoMemory>
-    ensures { IfOk result (λ line. line ≡ course.failed_line file.now call.now) }
-{
-    let mut text = Bytes::new(alloc);
-    text.extend_all(&[b"postgate: ", file, b": ", call, b" failed"])?;
-    let mut line = Bytes::new(alloc);
-    add_line(&mut line, text.as_slice())?;
-    Ok(line)
-}
-
-// The refusal of a whole file.
-fn file_refused(alloc: Global, file: &[u8], cause: Cause) -> Result<Bytes, FileFault>
-    ensures said { Answers (Err (spec.file_refused file.now cause)) result }
-    ensures nothing { IfOk result (λ text. ⊥) }
-    ensures files { result ≢ Err FileFault.Failed }
-{
-    let Ok(name) = Bytes::from_slice(alloc, file) else {
-        return Err(FileFault::NoMemory);
-    };
-    match Bytes::from_slice(alloc, file) {
-        Err(NoMemory) => Err(FileFault::NoMemory),
-        Ok(file) => Err(FileFault::Refused(Refused {
-            file,
-            line: 0,
-            cause,
-            name,
-        })),
-    }
-}
 
 // What is said of a text.
 fn read_said(alloc: Global, file: &[u8], words: &ConfWords, text: &[u8]) -> Result<Said, FileFault>
@@ -82,27 +25,6 @@ fn read_said(alloc: Global, file: &[u8], words: &ConfWords, text: &[u8]) -> Resu
         Ok(said) => Ok(said),
         Err(ConfFault::Refused(refusal)) => Err(FileFault::Refused(refusal)),
         Err(ConfFault::NoMemory) => Err(FileFault::NoMemory),
-    }
-}
-
-/// The text of the main.cf of this name; a name that is no UTF-8 is that of no file. `Failed` comes only where the count of faults of
-/// `files` rose by one.
-pub fn conf_text<F: Files>(alloc: Global, file: &[u8], files: &mut F) -> Result<Bytes, FileFault>
-    ensures told { (all : Seq Pair) → (F.told files.old).content ≡ Some all
-        → Answers (spec.conf_text file.now (bytes_in all file.now)) result }
-    ensures text { IfOk result (λ text. IsUtf8 file.now) }
-    ensures failed { result ≡ Err FileFault.Failed → Kept (failed_tree (F.told files.old)) (F.told files.new) }
-    ensures kept { result ≢ Err FileFault.Failed → Kept (F.told files.old) (F.told files.new) }
-{
-    let Ok(name) = str::from_utf8(file) else {
-        return file_refused(alloc, file, Cause::C10);
-    };
-    match read_all(alloc, files, name) {
-        Ok(None) => file_refused(alloc, file, Cause::C10),
-        Ok(Some(text)) => Ok(text),
-        Err(ReadFault::TooLarge) => file_refused(alloc, file, Cause::C15),
-        Err(ReadFault::Failed) => Err(FileFault::Failed),
-        Err(ReadFault::NoMemory) => Err(FileFault::NoMemory),
     }
 }
 

@@ -4,10 +4,10 @@ ghost use Rattle.pf_base.specs.Clauses.Unless.{Unless};
 ghost use Rattle.pf_maincf.specs.Clauses.Faults.{as_fault};
 ghost use Rattle.pf_tools.specs.Printed as spec;
 
-use crate::all_settings::AllSettings;
 use crate::asked::{is_known, is_shown};
 use crate::values::value_shown;
 use pf_base::{Bytes, ConfFault, NoMemory, add_line};
+use pf_params::Known;
 use pf_words::{ConfWords, Shape};
 use std::alloc::Global;
 
@@ -40,18 +40,13 @@ fn line_text(alloc: Global, shape: Shape, name: &[u8], value: &[u8]) -> Result<B
 }
 
 // The line of a name that is shown; nothing of another one.
-fn line_of(
-    alloc: Global,
-    words: &ConfWords,
-    all: &AllSettings,
-    name: &[u8],
-) -> Result<Bytes, ConfFault>
-    ensures { Unless result ConfFault.NoMemory (λ r. r ≡ as_fault (spec.line_of words.now all.now name.now)) }
+fn line_of(alloc: Global, words: &ConfWords, known: &Known, name: &[u8]) -> Result<Bytes, ConfFault>
+    ensures { Unless result ConfFault.NoMemory (λ r. r ≡ as_fault (spec.line_of words.now known.now name.now)) }
 {
-    if !is_shown(words.mode, all, name) {
+    if !is_shown(words.mode, known, name) {
         return Ok(Bytes::new(alloc));
     }
-    let value = value_shown(alloc, words, all, name)?;
+    let value = value_shown(alloc, words, known, name)?;
     let Ok(mut line) = line_text(alloc, words.shape, name, value.as_slice()) else {
         return Err(ConfFault::NoMemory);
     };
@@ -65,14 +60,14 @@ fn line_of(
 pub(crate) fn lines_of(
     alloc: Global,
     words: &ConfWords,
-    all: &AllSettings,
+    known: &Known,
     names: &[Bytes],
 ) -> Result<Bytes, ConfFault>
-    ensures { Unless result ConfFault.NoMemory (λ r. r ≡ as_fault (spec.lines_of words.now all.now names.now)) }
+    ensures { Unless result ConfFault.NoMemory (λ r. r ≡ as_fault (spec.lines_of words.now known.now names.now)) }
 {
     let mut lines = Bytes::new(alloc);
     for name in names {
-        let line = line_of(alloc, words, all, name.as_slice())?;
+        let line = line_of(alloc, words, known, name.as_slice())?;
         let Ok(()) = lines.extend(line.as_slice()) else {
             return Err(ConfFault::NoMemory);
         };
@@ -84,12 +79,12 @@ pub(crate) fn lines_of(
 fn add_warning(
     alloc: Global,
     warnings: &mut Bytes,
-    all: &AllSettings,
+    known: &Known,
     name: &[u8],
 ) -> Result<(), NoMemory>
-    ensures { OnOk result (warnings.new ≡ warnings.old ++ spec.warning_of all.now name.now) }
+    ensures { OnOk result (warnings.new ≡ warnings.old ++ spec.warning_of known.now name.now) }
 {
-    if is_known(all, name) {
+    if is_known(known, name) {
         return Ok(());
     }
     let mut text = Bytes::new(alloc);
@@ -98,16 +93,12 @@ fn add_warning(
 }
 
 /// The warnings of names.
-pub(crate) fn warnings_of(
-    alloc: Global,
-    all: &AllSettings,
-    names: &[Bytes],
-) -> Result<Bytes, NoMemory>
-    ensures { IfOk result (λ warnings. warnings ≡ spec.warnings_of all.now names.now) }
+pub(crate) fn warnings_of(alloc: Global, known: &Known, names: &[Bytes]) -> Result<Bytes, NoMemory>
+    ensures { IfOk result (λ warnings. warnings ≡ spec.warnings_of known.now names.now) }
 {
     let mut warnings = Bytes::new(alloc);
     for name in names {
-        add_warning(alloc, &mut warnings, all, name.as_slice())?;
+        add_warning(alloc, &mut warnings, known, name.as_slice())?;
     }
     Ok(warnings)
 }

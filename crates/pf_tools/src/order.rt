@@ -1,40 +1,42 @@
 //! Names in the order of their bytes.
-ghost use Rattle.std.specs.Prelude.{◌≡◌, ◌≤◌, [], insert, length, IfSome, OnOk};
-ghost use Rattle.std.specs.Option.{option_map_or};
+ghost use Rattle.std.specs.Prelude.{◌≡◌, [], map, IfOk, OnOk};
 ghost use Rattle.pf_tools.specs.Clauses.Ordering.{with_name};
 
-use pf_base::{Bytes, NoMemory};
-use std::alloc::Global;
-use std::cmp::Ordering;
+use pf_base::{Bytes, List, NoMemory};
+use std::alloc::{AllocError, Global};
+use std::collections::BTreeSet;
 use std::marker::Model;
 
 /// Names in the order of their bytes, each once. A contract sees their list.
 #[derive(Drop)]
 pub(crate) struct Ordered {
-    names: Vec<Bytes>,
+    names: BTreeSet<Vec<u8>>,
 }
 
 impl Model for Ordered {
-    ghost use Rattle.std.specs.Prelude.{ℕ, List as Seq};
+    ghost use Rattle.std.specs.Prelude.{ℕ, List as Seq, map};
 
     ghost Value = { Seq (Seq ℕ) };
 
-    ghost view = { λ ordered. ordered.names.items };
+    ghost view = { λ ordered. map (λ name. name.items) ordered.names.keys };
 }
 
-// Where a name is to be put; None where it is there.
-fn place_of(names: &[Bytes], name: &[u8]) -> Option<usize>
-    ensures within { IfSome result (λ place. place ≤ length names.now) }
-    ensures put { with_name names.now name.now ≡ option_map_or (λ place. insert names.now place name.now) result names.now }
+// The names of a set.
+fn names_in(alloc: Global, names: BTreeSet<Vec<u8>>) -> Result<Vec<Vec<u8>>, AllocError>
+    ensures { IfOk result (λ all. all.items ≡ names.keys) }
 {
-    for (place, other) in names.iter().enumerate() {
-        match name.cmp(other.as_slice()) {
-            Ordering::Less => return Some(place),
-            Ordering::Equal => return None,
-            Ordering::Greater => {}
-        }
+    names.into_iter().collect(alloc)
+}
+
+// A list of these.
+fn list_of(alloc: Global, names: &[Vec<u8>]) -> Result<List<Bytes>, NoMemory>
+    ensures { IfOk result (λ list. list ≡ map (λ name. name.items) names.now) }
+{
+    let mut list = List::new(alloc);
+    for name in names {
+        list.push(Bytes::from_slice(alloc, name.as_slice())?)?;
     }
-    Some(names.len())
+    Ok(list)
 }
 
 impl Ordered {
@@ -43,25 +45,33 @@ impl Ordered {
         ensures { result ≡ [] }
     {
         Ordered {
-            names: Vec::new(alloc),
+            names: BTreeSet::new(alloc),
         }
     }
 
-    /// The names as a slice.
-    pub(crate) fn as_slice(&self) -> &[Bytes]
-        ensures { result.now ≡ self.now }
+    // Puts a name in its place, unless it is there.
+    fn put(&mut self, name: Vec<u8>) -> Result<(), NoMemory>
+        ensures { OnOk result (self.new ≡ with_name self.old name.items) }
     {
-        self.names.as_slice()
+        let Ok(_) = self.names.insert(name) else {
+            return Err(NoMemory);
+        };
+        Ok(())
     }
 
     /// Puts a name in its place, unless it is there.
     pub(crate) fn add(&mut self, alloc: Global, name: &[u8]) -> Result<(), NoMemory>
         ensures { OnOk result (self.new ≡ with_name self.old name.now) }
     {
-        if let Some(place) = place_of(self.names.as_slice(), name) {
-            let name = Bytes::from_slice(alloc, name)?;
-            self.names.insert(place, name)?;
-        }
-        Ok(())
+        let name = Vec::from_slice(alloc, name)?;
+        self.put(name)
+    }
+
+    /// The list of the names.
+    pub(crate) fn into_list(self, alloc: Global) -> Result<List<Bytes>, NoMemory>
+        ensures { IfOk result (λ list. list ≡ self) }
+    {
+        let names = names_in(alloc, self.names)?;
+        list_of(alloc, names.as_slice())
     }
 }

@@ -4,16 +4,18 @@ ghost use Rattle.std.specs.Str.{IsUtf8};
 ghost use Rattle.pf_base.specs.Objects.{log_text};
 ghost use Rattle.pf_base.specs.Refusal.{refusal_line};
 ghost use Rattle.pf_base.specs.declared.status.TheConstants.{FILES_FAILED, REFUSED};
+ghost use Rattle.pf_maincf.specs.File.{failed_line};
 ghost use Rattle.pf_tools.specs.Course as spec;
 ghost use Rattle.pf_tools.specs.Course.{Course as course};
 ghost use Rattle.pf_tools.specs.Course.{Leaves, Unfinished};
 ghost use Rattle.pf_tools.specs.Clauses.Reports.{IsEditReport, Reports};
 ghost use Rattle.pf_words.specs.Postconf.{is_edit, sets_parameters};
 
-use crate::file::{FileFault, conf_name, failed_line, file_said};
+use crate::file::file_said;
 use crate::said::Said;
 use pf_base::status::{DONE, FILES_FAILED, REFUSED, WARNED};
 use pf_base::{Bytes, Files, NoMemory, OuterFault, Refused, Texts};
+use pf_maincf::{FileFault, conf_name, failed_line};
 use pf_words::ConfWords;
 use std::alloc::Global;
 
@@ -66,7 +68,7 @@ fn refused_report(alloc: Global, refusal: &Refused) -> Result<Report, NoMemory>
 
 // The report of a call on the file that failed.
 fn failed_report(alloc: Global, file: &[u8], call: &[u8]) -> Result<Report, NoMemory>
-    ensures { IfOk result (λ report. report ≡ record { texts = log_text (spec.failed_line file.now call.now); status = FILES_FAILED }) }
+    ensures { IfOk result (λ report. report ≡ record { texts = log_text (failed_line file.now call.now); status = FILES_FAILED }) }
 {
     let line = failed_line(alloc, file, call)?;
     Ok(log_report(alloc, line, FILES_FAILED))

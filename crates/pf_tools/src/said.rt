@@ -7,11 +7,11 @@ ghost use Rattle.pf_tools.specs.Asked.{asked_names};
 ghost use Rattle.pf_tools.specs.Said as spec;
 ghost use Rattle.pf_words.specs.Postconf.{are_edits, is_edit, is_over, sets_parameters};
 
-use crate::all_settings::AllSettings;
 use crate::asked::shown_names;
 use crate::lines::{lines_of, warnings_of};
 use pf_base::{Bytes, ConfFault, List, NoMemory};
 use pf_maincf::{MainCf, Setting};
+use pf_params::{Known, Settings};
 use pf_words::{ConfMode, ConfWords, setting_of_word, settings_of_words};
 use std::alloc::Global;
 
@@ -26,32 +26,32 @@ pub(crate) enum Said {
 fn printed_of(
     alloc: Global,
     words: &ConfWords,
-    all: &AllSettings,
+    known: &Known,
     names: &[Bytes],
 ) -> Result<Said, ConfFault>
-    ensures is { Unless result ConfFault.NoMemory (λ r. r ≡ as_fault (spec.printed_of words.now all.now names.now)) }
+    ensures is { Unless result ConfFault.NoMemory (λ r. r ≡ as_fault (spec.printed_of words.now known.now names.now)) }
     ensures edited { IfOk result (λ said. spec.is_edited said ≡ false) }
 {
-    let lines = lines_of(alloc, words, all, names)?;
-    match warnings_of(alloc, all, names) {
+    let lines = lines_of(alloc, words, known, names)?;
+    match warnings_of(alloc, known, names) {
         Ok(warnings) => Ok(Said::Printed { lines, warnings }),
         Err(NoMemory) => Err(ConfFault::NoMemory),
     }
 }
 
 // The lines and the warnings of the names that are asked for.
-fn asked(alloc: Global, words: &ConfWords, all: &AllSettings) -> Result<Said, ConfFault>
-    ensures is { Unless result ConfFault.NoMemory (λ r. r ≡ as_fault (spec.printed_of words.now all.now (asked_names words.now all.now))) }
+fn asked(alloc: Global, words: &ConfWords, known: &Known) -> Result<Said, ConfFault>
+    ensures is { Unless result ConfFault.NoMemory (λ r. r ≡ as_fault (spec.printed_of words.now known.now (asked_names words.now known.now))) }
     ensures edited { IfOk result (λ said. spec.is_edited said ≡ false) }
 {
     match words.rest.as_slice() {
         [] => {
-            let Ok(names) = shown_names(alloc, words.mode, all) else {
+            let Ok(names) = shown_names(alloc, words.mode, known) else {
                 return Err(ConfFault::NoMemory);
             };
-            printed_of(alloc, words, all, names.as_slice())
+            printed_of(alloc, words, known, names.as_slice())
         }
-        names => printed_of(alloc, words, all, names),
+        names => printed_of(alloc, words, known, names),
     }
 }
 
@@ -93,8 +93,8 @@ fn printed(alloc: Global, file: &[u8], words: &ConfWords, text: &[u8]) -> Result
     let Ok(over) = over_of(alloc, &words.over) else {
         return Err(ConfFault::NoMemory);
     };
-    let all = AllSettings::new(alloc, main, over)?;
-    asked(alloc, words, &all)
+    let settings = Settings::new(alloc, &main, &over)?;
+    asked(alloc, words, settings.known())
 }
 
 // The text of a main.cf after an edit.

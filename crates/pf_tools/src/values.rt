@@ -11,9 +11,10 @@ ghost use Rattle.pf_params.specs.Settled.{or_refused};
 ghost use Rattle.pf_params.specs.Sources.{preset_of};
 ghost use Rattle.pf_tools.specs.Values as spec;
 
-use crate::all_settings::AllSettings;
 use pf_base::{Bytes, ConfFault, Meaning, NoMemory, Refused};
-use pf_catalogue::{param, param_row};
+use pf_catalogue::param;
+use pf_maincf::Setting;
+use pf_params::Known;
 use pf_words::{ConfMode, ConfWords, Shape};
 use std::alloc::Global;
 
@@ -45,14 +46,14 @@ fn text_with(alloc: Global, name: &[u8]) -> Result<Bytes, NoMemory>
 }
 
 // The domain in the value of a name.
-fn domain_shown(alloc: Global, all: &AllSettings, host: &[u8]) -> Result<Bytes, ConfFault>
+fn domain_shown(alloc: Global, known: &Known, host: &[u8]) -> Result<Bytes, ConfFault>
     requires { host.now ≡ codes "myhostname" }
-    ensures { Unless result ConfFault.NoMemory (λ r. r ≡ as_fault (or_refused all.now.file (spec.value_in all.now (DomainOf host.now)))) }
+    ensures { Unless result ConfFault.NoMemory (λ r. r ≡ as_fault (or_refused known.now.file (spec.value_in known.now (DomainOf host.now)))) }
 {
     let Ok(text) = text_with(alloc, host) else {
         return Err(ConfFault::NoMemory);
     };
-    let value = all.expand(alloc, text.as_slice())?;
+    let value = known.expand(alloc, text.as_slice())?;
     match domain_in(alloc, value.as_slice()) {
         Ok(domain) => Ok(domain),
         Err(NoMemory) => Err(ConfFault::NoMemory),
@@ -60,16 +61,11 @@ fn domain_shown(alloc: Global, all: &AllSettings, host: &[u8]) -> Result<Bytes, 
 }
 
 // A text, or its value.
-fn text_shown(
-    alloc: Global,
-    all: &AllSettings,
-    expanded: bool,
-    text: &[u8],
-) -> Result<Bytes, ConfFault>
-    ensures { Unless result ConfFault.NoMemory (λ r. r ≡ as_fault (or_refused all.now.file (spec.shown expanded all.now (Is text.now)))) }
+fn text_shown(alloc: Global, known: &Known, expanded: bool, text: &[u8]) -> Result<Bytes, ConfFault>
+    ensures { Unless result ConfFault.NoMemory (λ r. r ≡ as_fault (or_refused known.now.file (spec.shown expanded known.now (Is text.now)))) }
 {
     if expanded {
-        return all.expand(alloc, text);
+        return known.expand(alloc, text);
     }
     match Bytes::from_slice(alloc, text) {
         Ok(text) => Ok(text),
@@ -80,28 +76,28 @@ fn text_shown(
 // What is shown of a name by default.
 fn preset_shown(
     alloc: Global,
-    all: &AllSettings,
+    known: &Known,
     expanded: bool,
     name: &[u8],
 ) -> Result<Bytes, ConfFault>
-    ensures { Unless result ConfFault.NoMemory (λ r. r ≡ as_fault (or_refused all.now.file (spec.shown expanded all.now (preset_of name.now)))) }
+    ensures { Unless result ConfFault.NoMemory (λ r. r ≡ as_fault (or_refused known.now.file (spec.shown expanded known.now (preset_of name.now)))) }
 {
     match param(name) {
-        None => text_shown(alloc, all, expanded, b""),
-        Some(p) => match param_row(p).2 {
-            Meaning::Is(text) => text_shown(alloc, all, expanded, text),
-            Meaning::DomainOf(host) => domain_shown(alloc, all, host),
+        None => text_shown(alloc, known, expanded, b""),
+        Some(p) => match p.row().2 {
+            Meaning::Is(text) => text_shown(alloc, known, expanded, text),
+            Meaning::DomainOf(host) => domain_shown(alloc, known, host),
         },
     }
 }
 
-// The text that is set for a name and counts.
-fn counting_text<'a>(mode: ConfMode, all: &'a AllSettings, name: &[u8]) -> Option<&'a Bytes>
-    ensures { spec.source_in mode all.now name.now ≡ option_map_or Is (option_copied result) (preset_of name.now) }
+// The setting of a name that counts.
+fn counting<'a>(mode: ConfMode, known: &'a Known, name: &[u8]) -> Option<&'a Setting>
+    ensures { spec.source_in mode known.now name.now ≡ option_map_or (λ s. Is s.value) (option_copied result) (preset_of name.now) }
 {
     match mode {
         ConfMode::Defaults => None,
-        _ => all.text(name),
+        _ => known.last(name),
     }
 }
 
@@ -109,24 +105,24 @@ fn counting_text<'a>(mode: ConfMode, all: &'a AllSettings, name: &[u8]) -> Optio
 fn name_shown(
     alloc: Global,
     words: &ConfWords,
-    all: &AllSettings,
+    known: &Known,
     name: &[u8],
 ) -> Result<Bytes, ConfFault>
-    ensures { Unless result ConfFault.NoMemory (λ r. r ≡ as_fault (or_refused all.now.file (spec.shown words.now.expanded all.now (spec.source_in words.now.mode all.now name.now)))) }
+    ensures { Unless result ConfFault.NoMemory (λ r. r ≡ as_fault (or_refused known.now.file (spec.shown words.now.expanded known.now (spec.source_in words.now.mode known.now name.now)))) }
 {
-    match counting_text(words.mode, all, name) {
-        Some(text) => text_shown(alloc, all, words.expanded, text.as_slice()),
-        None => preset_shown(alloc, all, words.expanded, name),
+    match counting(words.mode, known, name) {
+        Some(setting) => text_shown(alloc, known, words.expanded, setting.value.as_slice()),
+        None => preset_shown(alloc, known, words.expanded, name),
     }
 }
 
 // The line of the setting that is shown of a name; a default stands in none.
-fn line_in(mode: ConfMode, all: &AllSettings, name: &[u8]) -> u64
-    ensures { result ≡ spec.line_in mode all.now name.now }
+fn line_in(mode: ConfMode, known: &Known, name: &[u8]) -> u64
+    ensures { result ≡ spec.line_in mode known.now name.now }
 {
     match mode {
         ConfMode::Defaults => 0,
-        _ => all.line(name),
+        _ => known.line(name),
     }
 }
 
@@ -134,17 +130,17 @@ fn line_in(mode: ConfMode, all: &AllSettings, name: &[u8]) -> u64
 fn at_setting(
     alloc: Global,
     mode: ConfMode,
-    all: &AllSettings,
+    known: &Known,
     name: &[u8],
     refusal: Refused,
 ) -> ConfFault
-    ensures { result ≢ ConfFault.NoMemory → result ≡ ConfFault.Refused (record refusal { line = spec.line_in mode all.now name.now; name = name.now }) }
+    ensures { result ≢ ConfFault.NoMemory → result ≡ ConfFault.Refused (record refusal { line = spec.line_in mode known.now name.now; name = name.now }) }
 {
     match Bytes::from_slice(alloc, name) {
         Err(NoMemory) => ConfFault::NoMemory,
         Ok(copy) => ConfFault::Refused(Refused {
             file: refusal.file,
-            line: line_in(mode, all, name),
+            line: line_in(mode, known, name),
             cause: refusal.cause,
             name: copy,
         }),
@@ -155,17 +151,19 @@ fn at_setting(
 pub(crate) fn value_shown(
     alloc: Global,
     words: &ConfWords,
-    all: &AllSettings,
+    known: &Known,
     name: &[u8],
 ) -> Result<Bytes, ConfFault>
-    ensures { Unless result ConfFault.NoMemory (λ r. r ≡ as_fault (spec.value_shown words.now all.now name.now)) }
+    ensures { Unless result ConfFault.NoMemory (λ r. r ≡ as_fault (spec.value_shown words.now known.now name.now)) }
 {
     if words.shape == Shape::Names {
         return Ok(Bytes::new(alloc));
     }
-    match name_shown(alloc, words, all, name) {
+    match name_shown(alloc, words, known, name) {
         Ok(value) => Ok(value),
-        Err(ConfFault::Refused(refusal)) => Err(at_setting(alloc, words.mode, all, name, refusal)),
+        Err(ConfFault::Refused(refusal)) => Err(at_setting(
+            alloc, words.mode, known, name, refusal,
+        )),
         Err(ConfFault::NoMemory) => Err(ConfFault::NoMemory),
     }
 }

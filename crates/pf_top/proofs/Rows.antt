@@ -1,7 +1,6 @@
 -- Worked examples of the definitions, each by computation.
 use Rattle.std.proofs.Common.{◌≡◌, ℕ, ◌++◌, true, false, List, [], ◌∷◌, map, Option, None, Some, Result, Ok, Err, option_map, refl, codes}
 use Rattle.std.specs.Fmt.{digits}
-use Rattle.std.specs.Str.{chars, is_utf8}
 use Rattle.pf_base.specs.Lines.{lines}
 use Rattle.pf_base.specs.Printing.{printed_line}
 use Rattle.pf_base.specs.Refusal.{cause_text, refusal_line}
@@ -18,16 +17,14 @@ use Rattle.pf_eval.specs.declared.policy.PlainItem.TheVariants.{PermitMynetworks
 use Rattle.pf_expand.specs.Expansion.{parts, text_value}
 use Rattle.pf_expand.specs.Forms.{first_part, form_of}
 use Rattle.pf_expand.specs.Names.{name_value}
-use Rattle.pf_maincf.specs.Settings.{conf_of}
+use Rattle.pf_maincf.specs.Settings.{Conf, conf_of}
 use Rattle.pf_params.specs.Parameters.{reading_of}
-use Rattle.pf_params.specs.Settled.{Settled}
 use Rattle.pf_params.specs.declared.readings.Reading.{Reading}
 use Rattle.pf_smtp.specs.Command.{after_keyword, verb_of}
 use Rattle.pf_smtp.specs.Path.{path_of}
 use Rattle.pf_smtp.specs.Session.{steps}
 use Rattle.pf_smtp.specs.Step.{command, step}
 use Rattle.pf_smtp.specs.Text.{accepted_text, denial_text, denied_text, greeting_of, helo_text, log_line, mail_text, quit_text, rcpt_text, recipient_text, relay_denied_text, text_of}
-use Rattle.pf_tools.specs.Course.{bytes_in, failed_line}
 use Rattle.pf_top.specs.Nets.{net_of, net_with}
 use Rattle.pf_top.specs.Opening.{opening_of, reading_named, setup_of}
 use Rattle.pf_top.specs.Profile.{cause_from, is_within, parameter_refusal}
@@ -200,7 +197,7 @@ unfolding conf_of settings_refusal parameter_refusal reading_named reading_of wo
 class_among_parameters = refl
 
 -- the relay list comes last, its words before what it lacks
-abbrev none_set : Settled
+abbrev none_set : Conf
 none_set = record { file = codes "main.cf"; settings = [] }
 
 checks_of_the_relay_list : map (λ items. option_map refusal_line (relay_refusal none_set items))
@@ -251,14 +248,6 @@ over_behind_quit = refl
 usage_of_the_words : usage_line ≡ codes "usage: postgate smtpd|relaycheck|postconf|postmap|workload\n"
 unfolding usage_line
 usage_of_the_words = refl
-
-failed_read : failed_line (codes "d\n/main.cf") (codes "read") ≡ codes "postgate: d?/main.cf: read failed\n"
-unfolding printed_line
-failed_read = refl
-
-main_cf_in_capitals : bytes_in (record { key = codes "MAIN.CF"; value = text } ∷ []) (codes "main.cf") ≡ None
-unfolding is_utf8 chars lib.Utf8.encode
-main_cf_in_capitals = refl
 
 statuses_of_sessions : map talk_status (Ok ended.AtEnd ∷ Ok ended.AtOver ∷ Ok ended.AtBudget ∷ Err fault.Input ∷ Err (fault.Sink sink.Out) ∷ Err (fault.Sink sink.NoMemory) ∷ [])
     ≡ 0 ∷ 0 ∷ 10 ∷ 4 ∷ 5 ∷ 9 ∷ []

@@ -2,6 +2,7 @@
 use Rattle.std.proofs.Common.{◌≡◌, ℕ, Option, None, Some, Err, refl, sym, ap, subst, ◌∙◌}
 use Rattle.pf_base.proofs.ToldLemmas.{stops_first}
 use Rattle.pf_base.specs.Objects.{Objects, log_text}
+use Rattle.pf_base.specs.declared.status.TheConstants.{NO_MEMORY}
 use Rattle.pf_base.specs.declared.texts.SinkFault.TheVariants.{NoMemory}
 use Rattle.pf_tools.proofs.ReportLaws.{starved}
 use Rattle.pf_tools.proofs.RunLaws.{runs_short}
@@ -16,9 +17,9 @@ use Rattle.pf_words.specs.declared.words.Words.{Words}
 use Rattle.pf_words.specs.declared.words.Words.TheVariants.{Smtpd, Postconf}
 
 -- memory was wanting before the command was known
-pub nothing_left : (words : Option Words) (o : Objects) → Leaves words o o 9
-nothing_left None o = said_usage o o 9 (Err NoMemory) refl (record { says = stops_first o.streams.sinks (log_text usage_line); input = refl }) refl
-nothing_left (Some (Smtpd words)) o = took_course words o o 9 course.starves refl ((refl, refl), refl)
+pub nothing_left : (words : Option Words) (o : Objects) → Leaves words o o NO_MEMORY
+nothing_left None o = said_usage o o NO_MEMORY (Err NoMemory) refl (record { says = stops_first o.streams.sinks (log_text usage_line); input = refl }) refl
+nothing_left (Some (Smtpd words)) o = took_course words o o NO_MEMORY course.starves refl ((refl, refl), refl)
 nothing_left (Some (Postconf words)) o =
     runs_short words o.files o.files o.streams.input o.streams.sinks.mail o.streams.sinks.out o.streams.sinks.log (starved words o.files o.files (refl, refl)) (λ is. refl)
 

@@ -9,6 +9,7 @@ use Rattle.pf_base.specs.Told.{wrote}
 use Rattle.pf_base.specs.Statuses.{HasCauses, NoneRose, counts_of, is_among}
 use Rattle.pf_base.specs.declared.pair.Pair.{Pair}
 use Rattle.pf_base.specs.declared.refused.Refused.{Refused}
+use Rattle.pf_base.specs.declared.status.TheConstants.{AT_BUDGET, DONE, FILES_FAILED, LOG_FAILED, NO_MEMORY, REFUSED, USAGE}
 use Rattle.pf_base.specs.declared.texts.SinkFault.{SinkFault}
 use Rattle.pf_base.specs.declared.texts.SinkFault.TheVariants as sink
 use Rattle.pf_smtp.proofs.PieceLemmas.{no_records}
@@ -28,7 +29,7 @@ use Rattle.pf_top.specs.declared.talk.TalkFault.TheVariants as fault
 use Rattle.pf_words.specs.declared.smtpd.SmtpdWords.{SmtpdWords}
 
 -- the status of a session that came to its end is one of two
-by_ended : (P : ℕ → Type 0) → P 0 → P 10 → (how : Ended) → P (ended_status how)
+by_ended : (P : ℕ → Type 0) → P DONE → P AT_BUDGET → (how : Ended) → P (ended_status how)
 by_ended P done budget ended.AtEnd = done
 by_ended P done budget ended.AtOver = done
 by_ended P done budget ended.AtBudget = budget
@@ -76,7 +77,7 @@ module _ (setup : Setup) where
       let ended : counts_of now ≡ counts_of mid =
       counts_same input (ap (λ s. s.out.faults) sinks) (ap (λ s. s.mail.faults) sinks) (ap (λ s. s.log.faults) sinks) refl in
       let same = ended ∙ talks_counts before mid t.taken t.talks files in
-      by_ended (HasCauses (counts_of before) (counts_of now)) (kept_causes _ _ 0 same refl) (kept_causes _ _ 10 same refl) how
+      by_ended (HasCauses (counts_of before) (counts_of now)) (kept_causes _ _ DONE same refl) (kept_causes _ _ AT_BUDGET same refl) how
   talk_causes budget before now (Err fault.Input) t files = record {
     input = ap (λ w. w.input.faults) t.broken ∙ ap counted t.talks.input.faults;
     out = ap (λ w. w.sinks.out.faults) t.broken ∙ ap (λ s. s.out.faults) t.talks.sinks;
@@ -100,7 +101,7 @@ sink_known sink.Log = refl
 sink_known sink.NoMemory = refl
 
 -- memory may be wanting whatever main.cf says
-memory_is_free : (answer : Result Opening Refused) → is_among (statuses_by answer) 9 ≡ true
+memory_is_free : (answer : Result Opening Refused) → is_among (statuses_by answer) NO_MEMORY ≡ true
 memory_is_free (Ok opening) = refl
 memory_is_free (Err refusal) = refl
 
@@ -123,9 +124,9 @@ module _ (words : SmtpdWords) (before now : Objects) where
 
   course_causes : (c : Course) → Leaves words before now c → HasCauses (counts_of before) (counts_of now) (course_status c)
   course_causes (course.talks opening result) left = talk_causes (setup_of opening words.client) words.budget before now result left.2 left.1.1
-  course_causes (course.refuses refusal said) left = said_causes before now 3 said (log_text _) left.2.input left.2.says refl
+  course_causes (course.refuses refusal said) left = said_causes before now REFUSED said (log_text _) left.2.input left.2.says refl
       (record { once = inl left.1.1; failed = λ is. cc; kept = λ is. left.1.1 })
-  course_causes (course.unread said) left = said_causes before now 8 said (log_text _) left.1.input left.1.says refl
+  course_causes (course.unread said) left = said_causes before now FILES_FAILED said (log_text _) left.1.input left.1.says refl
       (record { once = inr left.0.1; failed = λ is. left.0.1; kept = λ is. cc })
   course_causes course.starves left =
       starved_causes (counts_of before) (counts_of now) (ap (λ s. s.input.faults) left.1) (ap (λ s. s.sinks.out.faults) left.1)
@@ -135,7 +136,7 @@ module _ (words : SmtpdWords) (before now : Objects) where
   completes : (c : Course) → Leaves words before now c → (status : ℕ) → status ≡ course_status c → HasCauses (counts_of before) (counts_of now) status
       → (files : List Pair) → before.files.content ≡ Some files → NoneRose (counts_of before) (counts_of now) → is_among (statuses_by (opened_in words files)) status ≡ true
   completes (course.talks opening (Ok how)) left status is causes files told none =
-      rw (is, left.0 files told) (by_ended (λ s. is_among (0 ∷ 10 ∷ 9 ∷ []) s ≡ true) refl refl how)
+      rw (is, left.0 files told) (by_ended (λ s. is_among (DONE ∷ AT_BUDGET ∷ NO_MEMORY ∷ []) s ≡ true) refl refl how)
   completes (course.talks opening (Err fault.Input)) left status is causes files told none = absurd (none_failed is causes none)
   completes (course.talks opening (Err (fault.Sink why))) left status is causes files told none = rw (none_stopped why is causes none) (memory_is_free (opened_in words files))
   completes (course.refuses refusal (Ok x)) left status is causes files told none = rw (is, left.0 files told) refl
@@ -159,21 +160,21 @@ module _ (words : SmtpdWords) (before now : Objects) where
       }
 
 -- a run that said how the program is used
-usage_known : (before now : Streams) (said : Result ⊤ SinkFault) → SaysLine before now usage_line said → is_among (2 ∷ 7 ∷ 9 ∷ []) (status_of 2 said) ≡ true
+usage_known : (before now : Streams) (said : Result ⊤ SinkFault) → SaysLine before now usage_line said → is_among (USAGE ∷ LOG_FAILED ∷ NO_MEMORY ∷ []) (status_of USAGE said) ≡ true
 usage_known before now (Ok x) line = refl
 usage_known before now (Err sink.Out) line = absurd (line.says.0 refl)
 usage_known before now (Err sink.Mail) line = absurd (line.says.0 refl)
 usage_known before now (Err sink.Log) line = refl
 usage_known before now (Err sink.NoMemory) line = refl
 
-pub said_usage : (before now : Objects) (status : ℕ) (said : Result ⊤ SinkFault) → status ≡ status_of 2 said → SaysLine before.streams now.streams usage_line said → now.files ≡ before.files
+pub said_usage : (before now : Objects) (status : ℕ) (said : Result ⊤ SinkFault) → status ≡ status_of USAGE said → SaysLine before.streams now.streams usage_line said → now.files ≡ before.files
     → Unformed before now status
 said_usage before now status said is line files = record {
   said = said;
   status_is = is;
   says = line;
   files = files;
-  known = subst (λ s. is_among (2 ∷ 7 ∷ 9 ∷ []) s ≡ true) (sym is) (usage_known before.streams now.streams said line);
+  known = subst (λ s. is_among (USAGE ∷ LOG_FAILED ∷ NO_MEMORY ∷ []) s ≡ true) (sym is) (usage_known before.streams now.streams said line);
   causes = subst (HasCauses (counts_of before) (counts_of now)) (sym is)
-      (said_causes before now 2 said (log_text usage_line) line.input line.says refl (record { once = inl (ap (λ t. t.faults) files); failed = λ is. cc; kept = λ is. ap (λ t. t.faults) files }));
+      (said_causes before now USAGE said (log_text usage_line) line.input line.says refl (record { once = inl (ap (λ t. t.faults) files); failed = λ is. cc; kept = λ is. ap (λ t. t.faults) files }));
 }

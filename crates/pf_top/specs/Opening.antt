@@ -3,8 +3,9 @@ use Rattle.std.specs.Prelude.{ℕ, List, [], Option, Some, None, Result, Ok, Err
 use Rattle.std.specs.Option.{option_and_then, option_map_or, unwrap_or}
 use Rattle.pf_base.specs.declared.refused.Cause.{Cause}
 use Rattle.pf_catalogue.specs.Catalogue.{place_of, row_at}
-use Rattle.pf_params.specs.Parameters.{items_in, reading_of}
-use Rattle.pf_params.specs.Settled.{Settled}
+use Rattle.pf_catalogue.specs.Values.{items_in}
+use Rattle.pf_maincf.specs.Settings.{Conf}
+use Rattle.pf_params.specs.Parameters.{reading_of}
 use Rattle.pf_params.specs.declared.readings.Reading.{Reading}
 use Rattle.pf_smtp.specs.declared.state.Setup.{Setup}
 use Rattle.pf_top.specs.Values.{nets_of, relay_of}
@@ -20,18 +21,18 @@ read_well (Ok reading) = Some reading
 read_well (Err cause) = None
 
 -- what is read of the parameter of a name
-unfoldable pub reading_named : Settled → List ℕ → Option Reading
+unfoldable pub reading_named : Conf → List ℕ → Option Reading
 reading_named s name = option_and_then (λ place. read_well (reading_of s (row_at place))) (place_of name)
 
 -- its value, and the items of that
-abbrev pub text_named : Settled → List ℕ → List ℕ
+abbrev pub text_named : Conf → List ℕ → List ℕ
 text_named s name = option_map_or (λ (reading : Reading). reading.text) (reading_named s name) []
 
-abbrev pub items_named : Settled → List ℕ → List (List ℕ)
+abbrev pub items_named : Conf → List ℕ → List (List ℕ)
 items_named s name = option_map_or (λ (reading : Reading). items_in reading.value) (reading_named s name) []
 
 -- what settings that are not refused say of a session
-unfoldable pub opening_of : Settled → Opening
+unfoldable pub opening_of : Conf → Opening
 opening_of s = record {
   host = text_named s (codes "myhostname");
   banner = text_named s (codes "smtpd_banner");

@@ -8,8 +8,9 @@ use Rattle.pf_base.specs.declared.refused.Cause.{Cause}
 use Rattle.pf_base.specs.declared.refused.Cause.TheVariants.{C14}
 use Rattle.pf_base.specs.declared.refused.Refused.{Refused}
 use Rattle.pf_catalogue.specs.Catalogue.{Row}
-use Rattle.pf_params.specs.Parameters.{is_set, items_in, reading_of, refusal_of}
-use Rattle.pf_params.specs.Settled.{Settled}
+use Rattle.pf_catalogue.specs.Values.{items_in}
+use Rattle.pf_maincf.specs.Settings.{Conf, is_set}
+use Rattle.pf_params.specs.Parameters.{reading_of, refusal_of}
 use Rattle.pf_params.specs.declared.readings.Reading.{Reading}
 use Rattle.pf_top.specs.Values.{hosts_of, nets_of}
 
@@ -33,10 +34,10 @@ cause_from name set (Err cause) = Some cause
 cause_from name set (Ok reading) = if is_within name set reading then None else Some C14
 
 -- the refusal of a parameter
-unfoldable pub parameter_refusal : Settled → Row → Option Refused
+unfoldable pub parameter_refusal : Conf → Row → Option Refused
 parameter_refusal s row = option_map (refusal_of s row.name) (cause_from row.name (is_set s row.name) (reading_of s row))
 
 -- the first refusal of these parameters in order
-abbrev pub first_refused : Settled → List Row → Option Refused
+abbrev pub first_refused : Conf → List Row → Option Refused
 first_refused s [] = None
 first_refused s (row ∷ rows) = option_or (parameter_refusal s row) (first_refused s rows)

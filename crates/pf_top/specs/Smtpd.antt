@@ -8,7 +8,7 @@ use Rattle.pf_base.specs.declared.pair.Pair.{Pair}
 use Rattle.pf_base.specs.declared.refused.Refused.{Refused}
 use Rattle.pf_base.specs.declared.status.TheConstants.{AT_BUDGET, DONE, FILES_FAILED, INPUT_FAILED, LOG_FAILED, MAIL_FAILED, NO_MEMORY, OUT_FAILED, REFUSED}
 use Rattle.pf_base.specs.declared.texts.SinkFault.{SinkFault}
-use Rattle.pf_tools.specs.Course.{Kept, bytes_in, conf_name, failed_line}
+use Rattle.pf_maincf.specs.File.{Kept, bytes_in, conf_name, failed_line}
 use Rattle.pf_top.specs.Opening.{setup_of}
 use Rattle.pf_top.specs.Refusals.{file_opened}
 use Rattle.pf_top.specs.Talk.{HasSession}

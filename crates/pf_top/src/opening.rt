@@ -3,7 +3,6 @@ ghost use Rattle.std.specs.Prelude.{◌≡◌, [], IfOk, codes};
 ghost use Rattle.std.specs.Option.{unwrap_or};
 ghost use Rattle.pf_base.specs.Clauses.Unless.{Unless};
 ghost use Rattle.pf_maincf.specs.Clauses.Faults.{as_fault};
-ghost use Rattle.pf_params.specs.Parameters as parameters;
 ghost use Rattle.pf_top.specs.Opening as opening;
 ghost use Rattle.pf_top.specs.Refusals as refusals;
 ghost use Rattle.pf_top.specs.Values as values;
@@ -11,7 +10,7 @@ ghost use Rattle.pf_top.specs.Values as values;
 use crate::refusal::settings_refusal;
 use crate::values::{nets_of, relay_of};
 use pf_base::{Bytes, ConfFault, List, NoMemory};
-use pf_catalogue::{Value, param};
+use pf_catalogue::param;
 use pf_eval::{PlainItem, PlainNet, PlainPolicy};
 use pf_maincf::MainCf;
 use pf_params::{Known, Reading};
@@ -49,18 +48,6 @@ fn text_named(alloc: Global, known: &Known, name: &[u8]) -> Result<Bytes, NoMemo
     }
 }
 
-// The items of a value, none where it is no list.
-fn items_in(alloc: Global, value: Value) -> List<Bytes>
-    ensures { result ≡ parameters.items_in value }
-{
-    match value {
-        Value::Items(items) => items,
-        Value::Text => List::new(alloc),
-        Value::Number(_) => List::new(alloc),
-        Value::Yes(_) => List::new(alloc),
-    }
-}
-
 /// The items of the value of the parameter of a name.
 pub(crate) fn items_named(
     alloc: Global,
@@ -71,7 +58,7 @@ pub(crate) fn items_named(
 {
     match reading_named(alloc, known, name)? {
         None => Ok(List::new(alloc)),
-        Some(reading) => Ok(items_in(alloc, reading.value)),
+        Some(reading) => Ok(reading.value.into_items(alloc)),
     }
 }
 

@@ -1,26 +1,15 @@
 //! The parameters that a session can be set up with, and the first that is refused.
 ghost use Rattle.std.specs.Prelude.{◌≡◌, IfOk};
 ghost use Rattle.pf_catalogue.specs.Catalogue.{catalogue, row_at};
+ghost use Rattle.pf_maincf.specs.Settings.{is_set};
 ghost use Rattle.pf_params.specs.Parameters as parameters;
 ghost use Rattle.pf_top.specs.Profile as profile;
 
 use crate::values::{hosts_of, nets_of};
-use pf_base::{Bytes, Cause, NoMemory, Refused, is_host_name};
-use pf_catalogue::{PARAMS, Param, Value, param_at, param_name};
+use pf_base::{Cause, NoMemory, Refused, is_host_name};
+use pf_catalogue::{PARAMS, Param, param_name};
 use pf_params::{Known, Reading};
 use std::alloc::Global;
-
-// The items of a value, none where it is no list.
-fn items_in(value: &Value) -> &[Bytes]
-    ensures { result.now ≡ parameters.items_in value.now }
-{
-    match value {
-        Value::Items(items) => items.as_slice(),
-        Value::Text => &[],
-        Value::Number(_) => &[],
-        Value::Yes(_) => &[],
-    }
-}
 
 // Whether a parameter may have any text.
 fn is_free(name: &[u8]) -> bool
@@ -36,12 +25,12 @@ fn is_within(alloc: Global, name: &[u8], set: bool, reading: &Reading) -> Result
     ensures { IfOk result (λ is. is ≡ profile.is_within name.now set reading.now) }
 {
     if name == b"mydestination".as_slice() {
-        let hosts = hosts_of(alloc, items_in(&reading.value))?;
+        let hosts = hosts_of(alloc, reading.value.items())?;
         Ok(hosts.is_some())
     } else if name == b"myhostname".as_slice() {
         Ok(is_host_name(reading.text.as_slice()))
     } else if name == b"mynetworks".as_slice() {
-        let networks = nets_of(alloc, items_in(&reading.value))?;
+        let networks = nets_of(alloc, reading.value.items())?;
         Ok(set && networks.is_some())
     } else if name == b"smtpd_relay_restrictions".as_slice() {
         Ok(set)
@@ -53,7 +42,7 @@ fn is_within(alloc: Global, name: &[u8], set: bool, reading: &Reading) -> Result
 // The cause of a parameter's refusal.
 fn cause_of(alloc: Global, known: &Known, p: Param) -> Result<Option<Cause>, NoMemory>
     ensures { IfOk result (λ cause. cause
-        ≡ profile.cause_from (row_at p).name (parameters.is_set known.now (row_at p).name) (parameters.reading_of known.now (row_at p))) }
+        ≡ profile.cause_from (row_at p).name (is_set known.now (row_at p).name) (parameters.reading_of known.now (row_at p))) }
 {
     match known.reading(alloc, p)? {
         Err(cause) => Ok(Some(cause)),
@@ -87,7 +76,7 @@ pub(crate) fn parameters_refusal(alloc: Global, known: &Known) -> Result<Option<
     ensures { IfOk result (λ refusal. refusal ≡ profile.first_refused known.now catalogue) }
 {
     for place in 0..PARAMS {
-        if let Some(refusal) = parameter_refusal(alloc, known, param_at(place))? {
+        if let Some(refusal) = parameter_refusal(alloc, known, Param::at(place))? {
             return Ok(Some(refusal));
         }
     }

@@ -3,7 +3,7 @@ use Rattle.std.specs.Prelude.{ℕ, ◌+◌, ◌==◌, List, [], ◌∷◌, Optio
 use Rattle.std.specs.List.{position}
 use Rattle.std.specs.Option.{option_and_then, option_map}
 use Rattle.pf_base.specs.Ascii as ascii
-use Rattle.pf_maincf.specs.Edit.{are_sets, is_set}
+use Rattle.pf_maincf.specs.Edit.{are_sets, is_writable}
 use Rattle.pf_maincf.specs.declared.setting.Setting.{Setting}
 
 -- the setting of a word that is parted at a place, the byte there left out
@@ -12,7 +12,7 @@ setting_at word place = record { line = 0; name = take place word; value = drop 
 
 -- a setting, where an edit can write it
 abbrev pub where_set : Setting → Option Setting
-where_set set = if is_set set then Some set else None
+where_set set = if is_writable set then Some set else None
 
 -- the setting of a word that is parted at its first equals sign, where an edit can write it
 unfoldable pub setting_of_word : List ℕ → Option Setting

@@ -6,7 +6,7 @@ ghost use Rattle.pf_maincf.specs.Edit.{AreSets};
 ghost use Rattle.pf_words.specs.Sets as sets;
 
 use pf_base::{Bytes, List, NoMemory};
-use pf_maincf::{Setting, are_sets, is_set};
+use pf_maincf::{Setting, are_sets, is_writable};
 use std::alloc::Global;
 
 // The place of the first equals sign.
@@ -31,7 +31,7 @@ pub fn setting_of_word(alloc: Global, word: &[u8]) -> Result<Option<Setting>, No
         name: Bytes::from_slice(alloc, &word[..place])?,
         value: Bytes::from_slice(alloc, &word[place + 1..])?,
     };
-    if is_set(&set) {
+    if is_writable(&set) {
         Ok(Some(set))
     } else {
         Ok(None)

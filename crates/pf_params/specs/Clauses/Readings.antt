@@ -4,8 +4,8 @@ use Rattle.std.specs.Result.{result_unwrap_or}
 use Rattle.pf_base.specs.Results.{◌>>=◌}
 use Rattle.pf_base.specs.declared.refused.Refused.{Refused}
 use Rattle.pf_catalogue.specs.Catalogue.{Row}
+use Rattle.pf_maincf.specs.Settings.{Conf}
 use Rattle.pf_params.specs.Parameters.{row_read}
-use Rattle.pf_params.specs.Settled.{Settled}
 use Rattle.pf_params.specs.declared.readings.Reading.{Reading}
 
 -- readings before others
@@ -15,7 +15,7 @@ before front answer = do
   Ok (front ++ readings)
 
 -- what is read of these parameters in order, or the first refusal
-abbrev pub readings_of : Settled → List Row → Result (List Reading) Refused
+abbrev pub readings_of : Conf → List Row → Result (List Reading) Refused
 readings_of settled [] = Ok []
 readings_of settled (row ∷ rows) = do
   reading ← row_read settled row

@@ -2,18 +2,11 @@
 use Rattle.std.specs.Prelude.{◌≡◌, ◌⊎◌, ℕ, List, Result, Ok, Err}
 use Rattle.pf_base.specs.Told.{Tree}
 use Rattle.pf_base.specs.declared.refused.Refused.{Refused}
-use Rattle.pf_tools.specs.Course.{Course, Courses, Leaves, conf_name, course_status, texts_of}
+use Rattle.pf_maincf.specs.File.{conf_name}
+use Rattle.pf_tools.specs.Course.{Course, Courses, Leaves, course_status, texts_of}
 use Rattle.pf_tools.specs.Course.{Course as course}
-use Rattle.pf_tools.specs.declared.file.FileFault.{FileFault}
-use Rattle.pf_tools.specs.declared.file.FileFault.TheVariants as file_fault
 use Rattle.pf_tools.specs.declared.report.Report.{Report}
 use Rattle.pf_words.specs.declared.postconf.ConfWords.{ConfWords}
-
--- an answer of the code is what is said; a failed call on the files and want of memory are free
-abbrev pub Answers : {A : Type 0} → Result A Refused → Result A FileFault → Type 0
-Answers answer (Ok said) = answer ≡ Ok said
-Answers answer (Err (file_fault.Refused refusal)) = answer ≡ Err refusal
-Answers answer (Err other) = Unit {0}
 
 -- what is to be written in a course
 abbrev pub report_of : List ℕ → Course → Report

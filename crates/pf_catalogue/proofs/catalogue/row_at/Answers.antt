@@ -1,5 +1,5 @@
-use Rattle.pf_catalogue.proofs.TableLaws.{row_there}
 use Rattle.std.proofs.Common.{arith}
+use Rattle.pf_catalogue.proofs.TableLaws.{row_there}
 use Rattle.pf_catalogue.proofs.catalogue.row_at.Goals as goal
 
 pub returns : goal.returns

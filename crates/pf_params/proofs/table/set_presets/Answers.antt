@@ -15,7 +15,7 @@ pub loop-left-preserved : goal.loop-left-preserved
 loop-left-preserved c = (
   omega (arith, c.loop-left.invariant.0),
   λ empty.
-      let set = rw c.param_at.ensures at c.in_ok-set_preset.ensures in
+      let set = rw c.at.ensures at c.in_ok-set_preset.ensures in
       let family : ℕ → Type 0 = λ n. AreNames c.loop-left.names (preset_among (drop n catalogue)) in
       preset_more c.set_preset.new.names (c.loop-left.left - 1) (omega (arith, c.loop-left.invariant.0, c.loop-left-test.true))
       (set (preset_among (drop (c.loop-left.left - 1 + 1) catalogue)) (subst family (one_less c.loop-left.left c.loop-left-test.true) (c.loop-left.invariant.1 empty))),

@@ -1,4 +1,4 @@
-use Rattle.std.proofs.Common.{sym, subst}
+use Rattle.std.proofs.Common.{sym, subst, ◌∙◌}
 use Rattle.std.proofs.lemmas.Result.{IfOk-weaker}
 use Rattle.pf_tools.specs.Asked.{names_of}
 use Rattle.pf_tools.specs.Clauses.Ordering.{put_in_order}
@@ -7,5 +7,5 @@ use Rattle.pf_tools.proofs.asked.shown_names.Goals as goal
 
 pub returns : goal.returns
 returns c =
-    let all = names_of c.args.mode c.args.all.now in
-    record { order = IfOk-weaker c.names_of.result _ _ (λ names is. subst (IsInOrder all) (sym is) (put_in_order all)) c.names_of.ensures }
+    let all = names_of c.args.mode c.args.known.now in
+    record { order = IfOk-weaker c.into_list.result _ _ (λ list is. subst (IsInOrder all) (sym (is ∙ c.in_ok-names.ensures)) (put_in_order all)) c.into_list.ensures }

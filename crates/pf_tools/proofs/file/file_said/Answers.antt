@@ -1,6 +1,6 @@
-use Rattle.pf_tools.proofs.FileLaws.{goes_through}
-use Rattle.pf_tools.specs.Course.{bytes_in}
-use Rattle.pf_tools.specs.Said.{conf_text, text_said}
+use Rattle.pf_maincf.proofs.FileLaws.{goes_through}
+use Rattle.pf_maincf.specs.File.{bytes_in, conf_text}
+use Rattle.pf_tools.specs.Said.{text_said}
 use Rattle.pf_tools.proofs.file.file_said.Goals as goal
 
 pub returns-in-Ok-clause-told : goal.returns-in-Ok-clause-told

@@ -5,4 +5,4 @@ use Rattle.pf_tools.proofs.said.asked.Goals as goal
 pub returns-in-Ok-clause-is : goal.returns-in-Ok-clause-is
 returns-in-Ok-clause-is c =
     let none = rw c.as_slice.ensures at c.in-empty.len_below in
-    rw (c.as_slice-in-empty.ensures ∙ all_asked c.args.words.now c.args.all.now c.in-Ok.names none c.in-Ok.ensures.order) at c.printed_of.ensures.is
+    rw (c.as_slice-in-empty.ensures ∙ all_asked c.args.words.now c.args.known.now c.in-Ok.names none c.in-Ok.ensures.order) at c.printed_of.ensures.is

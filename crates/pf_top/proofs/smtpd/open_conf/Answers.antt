@@ -1,6 +1,5 @@
-use Rattle.pf_tools.proofs.FileLaws.{goes_through}
-use Rattle.pf_tools.specs.Course.{bytes_in}
-use Rattle.pf_tools.specs.Said.{conf_text}
+use Rattle.pf_maincf.proofs.FileLaws.{goes_through}
+use Rattle.pf_maincf.specs.File.{bytes_in, conf_text}
 use Rattle.pf_top.specs.Refusals.{text_opened}
 use Rattle.pf_top.proofs.smtpd.open_conf.Goals as goal
 

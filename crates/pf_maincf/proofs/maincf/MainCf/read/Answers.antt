@@ -17,7 +17,7 @@ returns-in_err-settings c =
     let p = err_from_is_err_and c.from_residual.result c.from_residual.ensures.1 in
     rw (p.1, p.2, conf_of_lines c.args.file.now c.args.text.now _ c.in-Ok.ensures) (λ memory. conf_fault c.args.file.now _ _ (rw c.as_slice.ensures at c.in_err-settings.ensures memory))
 
-pub returns-in-Ok-from_slice : goal.returns-in-Ok-from_slice
-returns-in-Ok-from_slice c =
+pub returns-in-Ok-conf_with : goal.returns-in-Ok-conf_with
+returns-in-Ok-conf_with c =
     let settings = there _ _ (rw c.as_slice.ensures at c.in_ok-settings.ensures) in
-    rw (conf_of_lines c.args.file.now c.args.text.now _ c.in-Ok.ensures, settings, c.in-Ok-from_slice.ensures)
+    rw (conf_of_lines c.args.file.now c.args.text.now _ c.in-Ok.ensures, settings, c.in-Ok-conf_with.ensures)

@@ -11,4 +11,4 @@ pub returns : goal.returns
 returns c =
     rw (← c.self.view_is)
     (reading_there c.self.inside.known catalogue c.self.inside.readings c.args.p c.at.result.now _ c.self.invariant.0
-    (rw (c.from.ensures, c.param_place.ensures.place) at c.at.ensures))
+    (rw (c.from.ensures, c.place.ensures.place) at c.at.ensures))
