@@ -1,6 +1,13 @@
-//! What the text of a table names (DATABASE_README).
+//! Tables by the texts that name them (DATABASE_README): what a text names, and tables that were opened.
 #![tactic(auto)]
 
+mod net_table;
+mod node;
+mod opening;
 mod specification;
+mod tables;
+mod walk;
 
+pub use opening::OpenFault;
 pub use specification::{SpecNode, spec};
+pub use tables::Tables;
