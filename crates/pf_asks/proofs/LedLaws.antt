@@ -6,13 +6,14 @@ use Rattle.pf_asks.proofs.HeldLaws.{count_more, counted_none, heard_again, hears
 use Rattle.pf_asks.specs.Heard.{Heard, ◌then◌, nothing}
 use Rattle.pf_asks.specs.Clauses.Held.{Answered, Held, Hears, Holds, Tells, called}
 use Rattle.pf_asks.specs.Clauses.Led.{Led, Links, Looks, Meant, Same, TablesLed, Uses, UsesTold, World, tried, world}
-use Rattle.pf_asks.specs.Looking.{CanFind, Looked, Stays, Tables, look_failed, looked_up, value_of}
+use Rattle.pf_asks.specs.Looking.{CanFind, Looked, Stays, Tables, Values, look_failed, looked_up, value_of}
 use Rattle.pf_asks.specs.Questions.{Ask, Gave, Means, ask, behind, done, look, try, ◌>>=◌}
 use Rattle.pf_asks.specs.Resolving.{Asked, answer_of, ask_failed}
 use Rattle.pf_asks.specs.Wire.{Wire, is_down}
 use Rattle.pf_asks.specs.declared.links.Outcome.{Outcome}
 use Rattle.pf_asks.specs.declared.links.Request.{Request}
 use Rattle.pf_asks.specs.declared.lookup.Found.{Found}
+use Rattle.pf_asks.specs.declared.lookup.Results.TheVariants.{Anything}
 use Rattle.pf_asks.specs.declared.lookup.TableFault.TheVariants.{Fails}
 use Rattle.pf_asks.specs.declared.resolver.Kind.{Kind}
 use Rattle.pf_asks.specs.declared.resolver.Row.{Row}
@@ -26,13 +27,14 @@ behind_behind xs ys gave = ap (λ asked. record gave { asked = asked }) (sym (ap
 
 -- tables
 pub stays_none : (tables : Tables) → Stays 0 tables tables
-stays_none tables = record { later = omega arith; few = omega arith; count = refl; sound = refl }
+stays_none tables = record { later = omega arith; few = omega arith; count = refl; partial = refl; sound = refl }
 
 pub stays_more : {m n : ℕ} {a b c : Tables} → Stays m a b → Stays n b c → Stays (m + n) a c
 stays_more first second = record {
   later = omega (arith, first.later, second.later);
   few = omega (arith, first.few, second.few);
   count = second.count ∙ first.count;
+  partial = second.partial ∙ first.partial;
   sound = second.sound ∙ first.sound;
 }
 
@@ -167,14 +169,18 @@ tells_meant None other = tt
 tells_meant (Some told) other = refl
 
 pub stays_once : (old : Tables) (result : Looked) → Stays 1 old (looked_up result old)
-stays_once old result = record { later = omega arith; few = omega arith; count = refl; sound = refl }
+stays_once old result = record { later = omega arith; few = omega arith; count = refl; partial = refl; sound = refl }
+
+-- tables of which each fails
+pub no_values : Values
+no_values id = record { value = λ key. None; partial_keys = true; results = Anything }
 
 looks_once : (old : Tables) (result : Looked) (id : ℕ) (key : List ℕ) (answered : Answered look_failed old.held.content (value_of id key) result)
     → Looks old (looked_up result old) (answered.heard ∷ [])
 looks_once old result id key answered = record {
   stays = stays_once old result;
-  hears = hears_call old.held (value_of id key) result (λ told. look_works (told id key)) (meant_by old.held.content (λ id key. None))
-      (tells_meant old.held.content (λ id key. None)) answered;
+  hears = hears_call old.held (value_of id key) result (λ told. look_works ((told id).value key)) (meant_by old.held.content no_values)
+      (tells_meant old.held.content no_values) answered;
 }
 
 -- a lookup
@@ -232,7 +238,7 @@ unfolding look done
 led_again id key result w holds = let again = heard_again w.tables.held (value_of id key) result holds in record {
   heard = record { looks = again.0 ∷ []; tries = []; asks = [] };
   asked = [];
-  tables = record { stays = record { later = omega arith; few = omega arith; count = refl; sound = refl }; hears = again.1 };
+  tables = record { stays = record { later = omega arith; few = omega arith; count = refl; partial = refl; sound = refl }; hears = again.1 };
   links = links_nothing w.links;
   resolver = hears_nothing w.resolver;
   is = λ means meant more. ap (λ x. record { answer = x; left = more; asked = [] }) (sym (again.2 means.values meant.values));

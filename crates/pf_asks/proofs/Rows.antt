@@ -1,25 +1,25 @@
 -- Worked examples of the definitions, each by computation.
-use Rattle.std.proofs.Common.{◌≡◌, ℕ, zero, suc, true, false, List, [], ◌∷◌, Option, None, Some, Ok, Err, refl, codes}
+use Rattle.std.proofs.Common.{◌≡◌, ℕ, zero, suc, true, false, List, [], ◌∷◌, None, Some, Ok, Err, refl, codes}
 use Rattle.pf_asks.specs.Heard.{marked, next, nothing, ◌then◌}
 use Rattle.pf_asks.specs.Clauses.Held.{failures}
 use Rattle.pf_asks.specs.Clauses.Led.{tried}
-use Rattle.pf_asks.specs.Looking.{Looked, look_failed, value_of}
+use Rattle.pf_asks.specs.Looking.{Looked, Values, look_failed, results_of, value_of}
 use Rattle.pf_asks.specs.Questions.{Means, look, try, ◌>>=◌}
 use Rattle.pf_asks.specs.Resolving.{answer_of, or_again}
 use Rattle.pf_asks.specs.Wire.{begun, hung_up, next_outcome}
 use Rattle.pf_asks.specs.declared.links.LinkStep.TheVariants.{Connect, Send}
 use Rattle.pf_asks.specs.declared.links.Outcome.TheVariants.{Down, Reply}
-use Rattle.pf_asks.specs.declared.lookup.Found.{Found}
 use Rattle.pf_asks.specs.declared.lookup.Found.TheVariants.{Value}
+use Rattle.pf_asks.specs.declared.lookup.Results.TheVariants.{Listed}
 use Rattle.pf_asks.specs.declared.lookup.TableFault.TheVariants.{Fails, Failed}
 use Rattle.pf_asks.specs.declared.resolver.Answer.TheVariants as answer
 use Rattle.pf_asks.specs.declared.resolver.AskFault.TheVariants as ask_fault
 use Rattle.pf_asks.specs.declared.resolver.Kind.TheVariants.{A, Mx}
 
--- the first table has one key, and the others fail; the resolver knows one address
-abbrev values : ℕ → List ℕ → Option Found
-values zero key = Some (Value (codes "1"))
-values (suc id) key = None
+-- the first table has one value, and the others fail; the resolver knows one address
+abbrev values : Values
+values zero = record { value = λ key. Some (Value (codes "1")); partial_keys = true; results = Listed (codes "1" ∷ []) }
+values (suc id) = record { value = λ key. None; partial_keys = true; results = Listed [] }
 
 abbrev means : Means
 means = record { values = values; rows = record { kind = A; name = codes "a.test"; answer = answer.Found (codes "192.0.2.1" ∷ []) } ∷ [] }
@@ -40,6 +40,9 @@ in_turn = refl
 -- lookups
 table_that_fails : value_of 1 (codes "k") values ≡ Err Fails
 table_that_fails = refl
+
+results_of_the_first_table : results_of 0 values ≡ Ok (Listed (codes "1" ∷ []))
+results_of_the_first_table = refl
 
 marked_lookup : look 0 (codes "k") means (marked (true ∷ false ∷ [])) ≡ record { answer = Err Failed; left = marked (false ∷ []); asked = [] }
 unfolding look

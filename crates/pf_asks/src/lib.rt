@@ -9,7 +9,7 @@ mod memory_links;
 mod resolver;
 
 pub use links::{LinkStep, Links, Outcome, Request};
-pub use lookup::{Found, Lookup, TableFault};
+pub use lookup::{Found, Lookup, Results, TableFault};
 pub use memory::MemResolver;
 pub use memory_links::MemLinks;
 pub use resolver::{Answer, AskFault, Kind, Resolver, Row};

@@ -6,7 +6,7 @@ use Rattle.std.specs.Prelude.{map}
 use Rattle.std.specs.Str.{bytes_eq}
 use Rattle.pf_base.specs.declared.pair.Pair.{Pair}
 use Rattle.pf_asks.specs.declared.lookup.Found.TheVariants.{Value}
-use Rattle.pf_table.specs.Clauses.Answers.{HasAll}
+use Rattle.pf_asks.specs.Looking.{HasAll}
 use Rattle.pf_table.specs.Tables.{Keyed, fail_meaning, found_as, found_in, keyed_meaning, kept_key, static_meaning}
 
 alike : (a b : List ℕ) → a ≡ b → bytes_eq a b ≡ true

@@ -5,10 +5,10 @@ use Rattle.pf_base.specs.Words.{words_of}
 use Rattle.pf_base.specs.declared.refused.Cause.TheVariants.{C1, C11}
 use Rattle.pf_base.specs.declared.table_texts.TableId.{TableId}
 use Rattle.pf_asks.specs.Heard.{marked, nothing}
+use Rattle.pf_asks.specs.Looking.{answer_of}
 use Rattle.pf_asks.specs.Questions.{Means, done, look, ◌>>=◌}
 use Rattle.pf_asks.specs.declared.lookup.Found.TheVariants.{Value, Absent}
 use Rattle.pf_asks.specs.declared.lookup.TableFault.TheVariants.{Fails, Failed}
-use Rattle.pf_table.specs.Clauses.Answers.{answer_of}
 use Rattle.pf_table.specs.Clauses.Memory.{values_of}
 use Rattle.pf_table.specs.First.{first_of}
 use Rattle.pf_table.specs.Inline.{inline_of, refused}

@@ -6,14 +6,8 @@ use Rattle.pf_base.specs.Names.{folded}
 use Rattle.pf_base.specs.declared.pair.Pair.{Pair}
 use Rattle.pf_asks.specs.declared.lookup.Found.{Found}
 use Rattle.pf_asks.specs.declared.lookup.Found.TheVariants.{Value, Absent}
-use Rattle.pf_table.specs.declared.table.Results.{Results}
-use Rattle.pf_table.specs.declared.table.Results.TheVariants.{Listed}
-
--- what a table means: at each key a value or none, or that it fails; whether it is asked for parts of a key; and which values it may give
-pub record Meaning : Type 0 where
-  pub value : List ℕ → Option Found
-  pub partial_keys : Bool
-  pub results : Results
+use Rattle.pf_asks.specs.declared.lookup.Results.TheVariants.{Listed}
+use Rattle.pf_asks.specs.Looking.{Meaning}
 
 -- static: one value for every key
 abbrev pub static_meaning : List ℕ → Meaning

@@ -2,8 +2,8 @@
 ghost use Rattle.std.specs.Prelude.{◌≡◌};
 ghost use Rattle.pf_table.specs.Tables as spec;
 
-use crate::table::{Results, Table};
-use pf_asks::{Found, TableFault};
+use crate::table::Table;
+use pf_asks::{Found, Results, TableFault};
 use pf_base::{Bytes, List, NoMemory};
 use std::alloc::Global;
 use std::marker::Model;

@@ -10,11 +10,12 @@ ghost use Rattle.pf_table.specs.Inline as spec;
 ghost use Rattle.pf_table.specs.Tables.{keyed_meaning};
 
 use crate::pairs::{Pairs, Repeats, kept_key};
-use crate::table::{Results, Table};
-use pf_asks::{Found, TableFault};
+use crate::refusal::refused;
+use crate::table::Table;
+use pf_asks::{Found, Results, TableFault};
 use pf_base::{
-    Bytes, Cause, ConfFault, List, NoMemory, Pair, Refused, WordsFault, closing_brace, is_space,
-    trimmed, words_of,
+    Bytes, Cause, ConfFault, List, NoMemory, Pair, WordsFault, closing_brace, is_space, trimmed,
+    words_of,
 };
 use std::alloc::Global;
 use std::marker::Model;
@@ -32,8 +33,9 @@ fn has_space(text: &[u8]) -> bool
     text.iter().any(|b| is_space(*b))
 }
 
-// What stands in the brace that was opened in front of a text, where nothing stands behind its partner.
-fn in_brace(text: &[u8]) -> Option<&[u8]>
+/// What stands in the brace that was opened in front of a text, up to its partner (DATABASE_README); None where there is none, or
+/// where something stands behind it.
+pub fn in_brace(text: &[u8]) -> Option<&[u8]>
     ensures { option_copied result ≡ spec.in_brace text.now }
 {
     match closing_brace(text) {
@@ -120,24 +122,12 @@ fn pairs_of(alloc: Global, folds: bool, text: &[u8]) -> Result<Option<Pairs>, No
 }
 
 // The refusal of a text that is no table; it names the whole specification.
-fn refusal(alloc: Global, file: &[u8], line: u64, text: &[u8]) -> Result<Refused, NoMemory>
-    ensures { IfOk result (λ refused. refused ≡ spec.refused file.now line text.now) }
-{
-    let mut name = Bytes::new(alloc);
-    name.extend_all(&[b"inline:{", text, b"}"])?;
-    Ok(Refused {
-        file: Bytes::from_slice(alloc, file)?,
-        line,
-        cause: Cause::C9,
-        name,
-    })
-}
-
-fn refused(alloc: Global, file: &[u8], line: u64, text: &[u8]) -> ConfFault
+fn text_refused(alloc: Global, file: &[u8], line: u64, text: &[u8]) -> ConfFault
     ensures { result ≢ ConfFault.NoMemory → result ≡ ConfFault.Refused (spec.refused file.now line text.now) }
 {
-    match refusal(alloc, file, line, text) {
-        Ok(refused) => ConfFault::Refused(refused),
+    let mut name = Bytes::new(alloc);
+    match name.extend_all(&[b"inline:{", text, b"}"]) {
+        Ok(()) => refused(alloc, file, line, Cause::C9, name.as_slice()),
         Err(NoMemory) => ConfFault::NoMemory,
     }
 }
@@ -169,7 +159,7 @@ fn table_of(
 {
     match pairs_of(alloc, folded, text) {
         Err(NoMemory) => Err(ConfFault::NoMemory),
-        Ok(None) => Err(refused(alloc, file, line, text)),
+        Ok(None) => Err(text_refused(alloc, file, line, text)),
         Ok(Some(pairs)) => Ok(Inline {
             folds: folded,
             pairs,

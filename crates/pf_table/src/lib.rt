@@ -7,13 +7,15 @@ mod inline;
 mod line;
 mod memory;
 mod pairs;
+mod refusal;
 mod table;
 mod text;
 
 pub use constant::{FailTable, StaticTable};
 pub use first::find_first;
-pub use inline::Inline;
+pub use inline::{Inline, in_brace};
 pub use memory::FixedLookup;
 pub use pairs::Repeats;
-pub use table::{Results, Table};
+pub use refusal::refused;
+pub use table::Table;
 pub use text::{Repeated, TextRead, TextTable};

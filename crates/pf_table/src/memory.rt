@@ -1,16 +1,16 @@
 //! Tables in memory.
-ghost use Rattle.std.specs.Prelude.{◌≡◌, ◌<◌, ◌==◌, Some, true, nat_lt, length, slice_get, IfOk};
+ghost use Rattle.std.specs.Prelude.{◌≡◌, ◌<◌, ◌==◌, Some, Ok, true, nat_lt, length, map, slice_get, IfOk};
 ghost use Rattle.std.specs.List.{find, list_all, list_any};
-ghost use Rattle.std.specs.Option.{ok_or, option_copied};
+ghost use Rattle.std.specs.Option.{option_copied};
 ghost use Rattle.std.specs.Str.{bytes_eq};
 ghost use Rattle.pf_base.specs.Clauses.Memory.{none_made};
 ghost use Rattle.pf_base.specs.Clauses.Unless.{Unless};
-ghost use Rattle.pf_asks.specs.Looking.{CanFind};
+ghost use Rattle.pf_asks.specs.Looking.{CanFind, answer_of};
 ghost use Rattle.pf_table.specs.Tables as spec;
 ghost use Rattle.pf_table.specs.Clauses.Memory as memory;
 
-use pf_asks::{Found, Lookup, TableFault};
-use pf_base::{List, NoMemory, Pair, TableId};
+use pf_asks::{Found, Lookup, Results, TableFault};
+use pf_base::{Bytes, List, NoMemory, Pair, TableId};
 use std::alloc::Global;
 use std::marker::Model;
 
@@ -29,6 +29,17 @@ fn found_in(alloc: Global, pairs: &[Pair], key: &[u8]) -> Result<Found, NoMemory
         None => Ok(Found::Absent),
         Some(pair) => Ok(Found::Value(pair.value.copy(alloc)?)),
     }
+}
+
+// The values of pairs.
+fn values_in(alloc: Global, pairs: &[Pair]) -> Result<List<Bytes>, NoMemory>
+    ensures { IfOk result (λ values. values ≡ map (λ pair. pair.value) pairs.now) }
+{
+    let mut values = List::new(alloc);
+    for pair in pairs {
+        values.push(pair.value.copy(alloc)?)?;
+    }
+    Ok(values)
 }
 
 // Whether all these places are below a number of tables.
@@ -50,8 +61,9 @@ fn contains(numbers: &[u64], number: u64) -> bool
 pub struct FixedLookup {
     tables: List<List<Pair>>,
     failing: List<u64>,
-    finds: u64,
+    calls: u64,
     faults: u64,
+    finds: u64,
 }
 
 impl Model for FixedLookup {
@@ -61,20 +73,22 @@ impl Model for FixedLookup {
 
     ghost view = { λ lookup. record {
       tables = lookup.tables;
-      calls = record { failing = lookup.failing; made = lookup.finds; faults = lookup.faults };
+      calls = record { failing = lookup.failing; made = lookup.calls; faults = lookup.faults };
+      finds = lookup.finds;
     } };
 }
 
 impl FixedLookup {
-    /// These tables. `failing` are the numbers, from 1, of the lookups that fail from outside.
+    /// These tables. `failing` are the numbers, from 1, of the calls of `find` and `results` that fail from outside.
     pub fn new(tables: List<List<Pair>>, failing: List<u64>) -> FixedLookup
-        ensures { result ≡ record { tables = tables; calls = none_made failing } }
+        ensures { result ≡ record { tables = tables; calls = none_made failing; finds = 0 } }
     {
         FixedLookup {
             tables,
             failing,
-            finds: 0,
+            calls: 0,
             faults: 0,
+            finds: 0,
         }
     }
 
@@ -92,13 +106,20 @@ impl FixedLookup {
         are_below(ids, self.count())
     }
 
-    // Counts a lookup, and says whether it fails.
-    fn next(&mut self) -> bool
-        ensures { memory.CountsFind self.old self.new result }
+    // Counts a lookup.
+    fn count_find(&mut self)
+        ensures { self.new ≡ memory.with_find self.old }
     {
-        let number = self.finds.saturating_add(1);
+        self.finds = self.finds.saturating_add(1);
+    }
+
+    // Counts a call, and says whether it fails.
+    fn next(&mut self) -> bool
+        ensures { memory.CountsCall self.old self.new result }
+    {
+        let number = self.calls.saturating_add(1);
         let fails = contains(self.failing.as_slice(), number);
-        self.finds = number;
+        self.calls = number;
         if fails {
             self.faults = self.faults.saturating_add(1);
         }
@@ -108,10 +129,21 @@ impl FixedLookup {
     // What the table of this place has for a key.
     fn value(&self, alloc: Global, id: TableId, key: &[u8]) -> Result<Found, TableFault>
         requires { id.0 < length self.now.tables }
-        ensures { Unless result TableFault.NoMemory (λ r. r ≡ ok_or (memory.value_in (slice_get self.now.tables id.0) key.now) TableFault.Fails) }
+        ensures { Unless result TableFault.NoMemory (λ r. r ≡ answer_of (memory.meaning_in (slice_get self.now.tables id.0)) key.now) }
     {
         match found_in(alloc, self.tables.at(id.0).as_slice(), key) {
             Ok(found) => Ok(found),
+            Err(NoMemory) => Err(TableFault::NoMemory),
+        }
+    }
+
+    // Which values the table of this place may give.
+    fn values(&self, alloc: Global, id: TableId) -> Result<Results, TableFault>
+        requires { id.0 < length self.now.tables }
+        ensures { Unless result TableFault.NoMemory (λ r. r ≡ Ok ((memory.meaning_in (slice_get self.now.tables id.0)).results)) }
+    {
+        match values_in(alloc, self.tables.at(id.0).as_slice()) {
+            Ok(values) => Ok(Results::Listed(values)),
             Err(NoMemory) => Err(TableFault::NoMemory),
         }
     }
@@ -121,9 +153,22 @@ impl Lookup for FixedLookup {
     ghost tables = { memory.seen };
 
     fn find(&mut self, alloc: Global, id: TableId, key: &[u8]) -> Result<Found, TableFault> {
+        self.count_find();
         if self.next() {
             return Err(TableFault::Failed);
         }
         self.value(alloc, id, key)
+    }
+
+    fn partial_keys(&self, _: TableId) -> bool {
+        true
+    }
+
+    fn results(&mut self, alloc: Global, id: TableId) -> Result<Results, TableFault> {
+        if self.next() {
+            Err(TableFault::Failed)
+        } else {
+            self.values(alloc, id)
+        }
     }
 }

@@ -1,21 +1,11 @@
 //! A table that is asked for keys.
 ghost use Rattle.std.specs.Prelude.{◌≡◌, IfOk};
 ghost use Rattle.pf_base.specs.Clauses.Unless.{Unless};
-ghost use Rattle.pf_table.specs.Clauses.Answers.{HasAll, answer_of};
-ghost use Rattle.pf_table.specs.Tables.{Meaning};
+ghost use Rattle.pf_asks.specs.Looking.{HasAll, Meaning, answer_of};
 
-use pf_asks::{Found, TableFault};
-use pf_base::{Bytes, List, NoMemory};
+use pf_asks::{Found, Results, TableFault};
+use pf_base::NoMemory;
 use std::alloc::Global;
-
-/// Which values a table may give.
-#[derive(Debug, Drop)]
-pub enum Results {
-    /// These, in the order of its pairs.
-    Listed(List<Bytes>),
-    /// Any value.
-    Anything,
-}
 
 /// A table (DATABASE_README).
 pub trait Table {

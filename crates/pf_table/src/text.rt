@@ -1,5 +1,5 @@
 //! Text tables (DATABASE_README, texthash).
-ghost use Rattle.std.specs.Prelude.{◌≡◌, ◌≢◌, IfOk, OnOk};
+ghost use Rattle.std.specs.Prelude.{◌≡◌, IfOk, OnOk};
 ghost use Rattle.pf_base.specs.Clauses.Unless.{Unless};
 ghost use Rattle.pf_table.specs.Clauses.Faults.{as_fault};
 ghost use Rattle.pf_table.specs.Clauses.Noting.{with_note};
@@ -9,11 +9,10 @@ ghost use Rattle.pf_table.specs.Text as spec;
 
 use crate::line::pair_of;
 use crate::pairs::{Pairs, Repeats};
-use crate::table::{Results, Table};
-use pf_asks::{Found, TableFault};
-use pf_base::{
-    Bytes, Cause, ConfFault, List, Logical, NoMemory, Pair, Refused, TextFault, logical_lines,
-};
+use crate::refusal::refused;
+use crate::table::Table;
+use pf_asks::{Found, Results, TableFault};
+use pf_base::{Bytes, Cause, ConfFault, List, Logical, NoMemory, Pair, TextFault, logical_lines};
 use std::alloc::Global;
 use std::marker::Model;
 
@@ -59,32 +58,6 @@ impl Entries {
     {
         self.note(alloc, &entry)?;
         self.pairs.add(repeats, entry.pair)
-    }
-}
-
-fn refusal(
-    alloc: Global,
-    file: &[u8],
-    line: u64,
-    cause: Cause,
-    name: &[u8],
-) -> Result<Refused, NoMemory>
-    ensures { IfOk result (λ refused. refused ≡ spec.refused file.now line cause name.now) }
-{
-    Ok(Refused {
-        file: Bytes::from_slice(alloc, file)?,
-        line,
-        cause,
-        name: Bytes::from_slice(alloc, name)?,
-    })
-}
-
-fn refused(alloc: Global, file: &[u8], line: u64, cause: Cause, name: &[u8]) -> ConfFault
-    ensures { result ≢ ConfFault.NoMemory → result ≡ ConfFault.Refused (spec.refused file.now line cause name.now) }
-{
-    match refusal(alloc, file, line, cause, name) {
-        Ok(refused) => ConfFault::Refused(refused),
-        Err(NoMemory) => ConfFault::NoMemory,
     }
 }
 

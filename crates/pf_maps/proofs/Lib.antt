@@ -1,0 +1,4 @@
+pub mod MeaningLaws
+pub mod OpenLaws
+pub mod Rows
+pub mod SpecLemmas

@@ -1,0 +1,92 @@
+-- Worked examples of the definitions, each by computation.
+use Rattle.std.proofs.Common.{◌≡◌, ℕ, true, false, List, [], ◌∷◌, None, Some, Ok, Err, refl, codes}
+use Rattle.pf_base.specs.Words.{words_of}
+use Rattle.pf_base.specs.declared.pair.Pair.{Pair}
+use Rattle.pf_base.specs.declared.refused.Cause.TheVariants.{C9}
+use Rattle.pf_base.specs.declared.table_texts.TableText.{TableText}
+use Rattle.pf_asks.specs.Looking.{answer_of}
+use Rattle.pf_asks.specs.declared.lookup.Found.TheVariants.{Value, Absent}
+use Rattle.pf_asks.specs.declared.lookup.Results.TheVariants.{Listed, Anything}
+use Rattle.pf_asks.specs.declared.lookup.TableFault.TheVariants.{Fails}
+use Rattle.pf_table.specs.Text.{refused}
+use Rattle.pf_maps.specs.Meanings.{meaning_of}
+use Rattle.pf_maps.specs.Opening.{tables_opened}
+use Rattle.pf_maps.specs.Specification.{group_named, leaf, nodes_of, spec_of}
+use Rattle.pf_maps.specs.declared.node.Node.{Node}
+use Rattle.pf_maps.specs.declared.node.Node.TheVariants as node
+use Rattle.pf_maps.specs.declared.specification.SpecNode.TheVariants as spec_node
+
+abbrev pair : List ℕ → List ℕ → Pair
+pair key value = record { key = key; value = value }
+
+-- what texts name
+of_a_value : spec_of (codes "main.cf") 7 (codes "static:{ a b }") ≡ Ok (spec_node.Fixed (codes "a b") ∷ [])
+unfolding nodes_of leaf group_named
+of_a_value = refl
+
+of_others : spec_of (codes "main.cf") 7 (codes "unionmap:{pipemap:{static:a,fail:f},inline:{a=b}}")
+    ≡ Ok (spec_node.Union 2 ∷ spec_node.Pipe 2 ∷ spec_node.Fixed (codes "a") ∷ spec_node.Fail ∷ spec_node.Inline (codes "a=b") ∷ [])
+unfolding nodes_of leaf group_named words_of
+of_others = refl
+
+of_no_known_type : spec_of (codes "main.cf") 7 (codes "hash:t") ≡ Err (refused (codes "main.cf") 7 C9 (codes "hash:t"))
+unfolding nodes_of leaf group_named
+of_no_known_type = refl
+
+of_no_member : spec_of (codes "main.cf") 7 (codes "pipemap:{}") ≡ Err (refused (codes "main.cf") 7 C9 (codes "pipemap:{}"))
+unfolding nodes_of leaf group_named words_of
+of_no_member = refl
+
+-- unions and pipes that may be nested once
+once_alone : nodes_of 1 (codes "unionmap:{static:a}") ≡ Some (spec_node.Union 1 ∷ spec_node.Fixed (codes "a") ∷ [])
+unfolding nodes_of leaf group_named words_of
+once_alone = refl
+
+once_in_another : nodes_of 1 (codes "unionmap:{pipemap:{static:a}}") ≡ None
+unfolding nodes_of leaf group_named words_of
+once_in_another = refl
+
+-- what tables mean
+abbrev inline : List ℕ → List ℕ → Node
+inline key value = node.Inline (record { folds = true; pairs = pair key value ∷ [] })
+
+joined_values : answer_of (meaning_of (node.Union 2 ∷ inline (codes "k") (codes "x") ∷ inline (codes "k") (codes "y") ∷ [])) (codes "k") ≡ Ok (Value (codes "x,y"))
+joined_values = refl
+
+union_with_one_that_fails : answer_of (meaning_of (node.Union 2 ∷ inline (codes "k") (codes "x") ∷ node.Fail ∷ [])) (codes "k") ≡ Err Fails
+union_with_one_that_fails = refl
+
+pipe_in_turn : answer_of (meaning_of (node.Pipe 2 ∷ inline (codes "a") (codes "b") ∷ inline (codes "b") (codes "c") ∷ [])) (codes "a") ≡ Ok (Value (codes "c"))
+pipe_in_turn = refl
+
+pipe_that_breaks : answer_of (meaning_of (node.Pipe 2 ∷ inline (codes "a") (codes "b") ∷ inline (codes "c") (codes "d") ∷ [])) (codes "a") ≡ Ok Absent
+pipe_that_breaks = refl
+
+pipe_that_ends_before_one_that_fails : answer_of (meaning_of (node.Pipe 2 ∷ inline (codes "a") (codes "b") ∷ node.Fail ∷ [])) (codes "q") ≡ Ok Absent
+pipe_that_ends_before_one_that_fails = refl
+
+union_in_a_pipe : answer_of (meaning_of (node.Pipe 2 ∷ node.Union 2 ∷ node.Fixed (codes "b") ∷ node.Fixed (codes "c") ∷ inline (codes "b,c") (codes "d") ∷ [])) (codes "q")
+    ≡ Ok (Value (codes "d"))
+union_in_a_pipe = refl
+
+results_of_one : (meaning_of (node.Union 1 ∷ inline (codes "k") (codes "x") ∷ [])).results ≡ Listed (codes "x" ∷ [])
+results_of_one = refl
+
+results_of_more : (meaning_of (node.Union 2 ∷ node.Fixed (codes "a") ∷ node.Fixed (codes "b") ∷ [])).results ≡ Anything
+results_of_more = refl
+
+results_of_the_last : (meaning_of (node.Pipe 2 ∷ node.Fixed (codes "a") ∷ node.Fixed (codes "b") ∷ [])).results ≡ Listed (codes "b" ∷ [])
+results_of_the_last = refl
+
+-- tables that are opened
+abbrev text : ℕ → List ℕ → TableText
+text line bytes = record { line = line; text = bytes }
+
+pair_in_a_text : tables_opened [] true (record { file = codes "main.cf"; texts = text 7 (codes "inline:{A=b}") ∷ [] }) ≡ Ok ((inline (codes "a") (codes "b") ∷ []) ∷ [])
+unfolding nodes_of leaf group_named words_of
+pair_in_a_text = refl
+
+first_refusal : tables_opened [] true (record { file = codes "main.cf"; texts = text 7 (codes "static:a") ∷ text 8 (codes "hash:t") ∷ text 9 (codes "btree:t") ∷ [] })
+    ≡ Err (refused (codes "main.cf") 8 C9 (codes "hash:t"))
+unfolding nodes_of leaf group_named
+first_refusal = refl

@@ -1,0 +1,4 @@
+-- Words of contracts, between the code and the definitions.
+pub mod Adding
+pub mod Opened
+pub mod Seen

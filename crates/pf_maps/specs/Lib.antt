@@ -1,0 +1,4 @@
+pub mod Clauses
+pub mod Meanings
+pub mod Opening
+pub mod Specification

@@ -1,0 +1,13 @@
+//! Tables by the texts that name them (DATABASE_README): what a text names, and tables that were opened.
+#![tactic(auto)]
+
+mod net_table;
+mod node;
+mod opening;
+mod specification;
+mod tables;
+mod walk;
+
+pub use opening::OpenFault;
+pub use specification::{SpecNode, spec};
+pub use tables::Tables;

@@ -1,0 +1,16 @@
+//! The tables of a specification once they are opened.
+use crate::net_table::NetTable;
+use pf_table::{Inline, StaticTable, TextTable};
+
+/// A table that was opened, or one that is made of the next ones.
+#[derive(Drop)]
+pub(crate) enum Node {
+    Text(TextTable),
+    Cidr(NetTable),
+    Inline(Inline),
+    Fixed(StaticTable),
+    Fail,
+    /// The number of its members, which stand behind it, each with its own.
+    Union(u64),
+    Pipe(u64),
+}

@@ -1,0 +1,223 @@
+//! How tables are opened.
+ghost use Rattle.std.specs.Prelude.{◌≡◌, Ok};
+ghost use Rattle.pf_base.specs.Clauses.Unless.{Unless};
+ghost use Rattle.pf_table.specs.Clauses.Faults.{as_fault};
+ghost use Rattle.pf_maps.specs.Clauses.Opened.{Opens, fault_of, held_as};
+ghost use Rattle.pf_maps.specs.Opening as opening;
+
+use crate::net_table::NetTable;
+use crate::node::Node;
+use crate::specification::{SpecNode, spec};
+use pf_base::{
+    Bytes, Cause, ConfFault, Files, List, NoMemory, ReadFault, Refused, Specs, TableId, read_all,
+};
+use pf_cidr::CidrTable;
+use pf_table::{Inline, Repeats, StaticTable, TextRead, TextTable, refused};
+use std::alloc::Global;
+
+/// Why tables are not opened.
+#[derive(Debug, PartialEq, Eq, Drop)]
+pub enum OpenFault {
+    /// A table is refused.
+    Refused(Refused),
+    /// The file of this name was not read, and the count of faults of the files rose.
+    Failed { file: Bytes },
+    /// Memory was wanting.
+    NoMemory,
+}
+
+impl OpenFault {
+    fn of(fault: ConfFault) -> OpenFault
+        ensures { result ≡ fault_of fault }
+    {
+        match fault {
+            ConfFault::Refused(refusal) => OpenFault::Refused(refusal),
+            ConfFault::NoMemory => OpenFault::NoMemory,
+        }
+    }
+}
+
+// Where a table is named: the file of the settings, and the line of the setting.
+#[derive(Drop)]
+pub(crate) struct Place {
+    file: Bytes,
+    line: u64,
+}
+
+// The text of the file of a table.
+fn table_text<F: Files>(
+    alloc: Global,
+    place: &Place,
+    name: &[u8],
+    files: &mut F,
+) -> Result<Bytes, OpenFault>
+    ensures { Opens (F.told files.old) (F.told files.new) (λ all. opening.table_text all place.now name.now) result }
+{
+    let Ok(text) = str::from_utf8(name) else {
+        return Err(OpenFault::of(refused(
+            alloc,
+            place.file.as_slice(),
+            place.line,
+            Cause::C10,
+            name,
+        )));
+    };
+    let Ok(file) = Bytes::from_slice(alloc, name) else {
+        return Err(OpenFault::NoMemory);
+    };
+    match read_all(alloc, files, text) {
+        Ok(None) => Err(OpenFault::of(refused(
+            alloc,
+            place.file.as_slice(),
+            place.line,
+            Cause::C10,
+            name,
+        ))),
+        Ok(Some(bytes)) => Ok(bytes),
+        Err(ReadFault::TooLarge) => {
+            Err(OpenFault::of(refused(alloc, place.file.as_slice(), place.line, Cause::C15, name)))
+        }
+        Err(ReadFault::Failed) => Err(OpenFault::Failed { file }),
+        Err(ReadFault::NoMemory) => Err(OpenFault::NoMemory),
+    }
+}
+
+fn open_text<F: Files>(
+    alloc: Global,
+    place: &Place,
+    folded: bool,
+    name: &[u8],
+    files: &mut F,
+) -> Result<Node, OpenFault>
+    ensures { Opens (F.told files.old) (F.told files.new) (λ all. opening.text_opened all place.now folded name.now) result }
+{
+    let text = table_text(alloc, place, name, files)?;
+    match TextTable::read(alloc, name, text.as_slice(), folded, Repeats::First) {
+        Ok(TextRead { table, repeated: _ }) => Ok(Node::Text(table)),
+        Err(fault) => Err(OpenFault::of(fault)),
+    }
+}
+
+fn open_cidr<F: Files>(
+    alloc: Global,
+    place: &Place,
+    name: &[u8],
+    files: &mut F,
+) -> Result<Node, OpenFault>
+    ensures { Opens (F.told files.old) (F.told files.new) (λ all. opening.cidr_opened all place.now name.now) result }
+{
+    let text = table_text(alloc, place, name, files)?;
+    match CidrTable::read(alloc, name, text.as_slice()) {
+        Ok(table) => Ok(Node::Cidr(NetTable::new(table))),
+        Err(fault) => Err(OpenFault::of(fault)),
+    }
+}
+
+fn open_inline(alloc: Global, place: &Place, folded: bool, text: &[u8]) -> Result<Node, ConfFault>
+    ensures { Unless result ConfFault.NoMemory (λ r. r ≡ as_fault (opening.inline_opened place.now folded text.now)) }
+{
+    match Inline::read(alloc, place.file.as_slice(), place.line, text, folded) {
+        Ok(table) => Ok(Node::Inline(table)),
+        Err(fault) => Err(fault),
+    }
+}
+
+fn open_fixed(alloc: Global, value: &Bytes) -> Result<Node, ConfFault>
+    ensures { Unless result ConfFault.NoMemory (λ r. r ≡ as_fault (Ok (Node.Fixed value.now))) }
+{
+    match value.copy(alloc) {
+        Ok(value) => Ok(Node::Fixed(StaticTable::new(value))),
+        Err(NoMemory) => Err(ConfFault::NoMemory),
+    }
+}
+
+// What was made without a file.
+fn held(node: Result<Node, ConfFault>) -> Result<Node, OpenFault>
+    ensures { result ≡ held_as node }
+{
+    match node {
+        Ok(node) => Ok(node),
+        Err(fault) => Err(OpenFault::of(fault)),
+    }
+}
+
+fn open_node<F: Files>(
+    alloc: Global,
+    place: &Place,
+    folded: bool,
+    node: &SpecNode,
+    files: &mut F,
+) -> Result<Node, OpenFault>
+    ensures { Opens (F.told files.old) (F.told files.new) (λ all. opening.node_opened all place.now folded node.now) result }
+{
+    match node {
+        SpecNode::Text(name) => open_text(alloc, place, folded, name.as_slice(), files),
+        SpecNode::Cidr(name) => open_cidr(alloc, place, name.as_slice(), files),
+        SpecNode::Inline(text) => held(open_inline(alloc, place, folded, text.as_slice())),
+        SpecNode::Fixed(value) => held(open_fixed(alloc, value)),
+        SpecNode::Fail => Ok(Node::Fail),
+        SpecNode::Union(count) => Ok(Node::Union(*count)),
+        SpecNode::Pipe(count) => Ok(Node::Pipe(*count)),
+    }
+}
+
+fn open_nodes<F: Files>(
+    alloc: Global,
+    place: &Place,
+    folded: bool,
+    nodes: &[SpecNode],
+    files: &mut F,
+) -> Result<List<Node>, OpenFault>
+    ensures { Opens (F.told files.old) (F.told files.new) (λ all. opening.nodes_opened all place.now folded nodes.now) result }
+{
+    let mut opened = List::new(alloc);
+    for node in nodes {
+        let one = open_node(alloc, place, folded, node, files)?;
+        let Ok(()) = opened.push(one) else {
+            return Err(OpenFault::NoMemory);
+        };
+    }
+    Ok(opened)
+}
+
+fn open_table<F: Files>(
+    alloc: Global,
+    place: &Place,
+    folded: bool,
+    text: &[u8],
+    files: &mut F,
+) -> Result<List<Node>, OpenFault>
+    ensures { Opens (F.told files.old) (F.told files.new) (λ all. opening.table_opened all folded place.now text.now) result }
+{
+    match spec(alloc, place.file.as_slice(), place.line, text) {
+        Ok(nodes) => open_nodes(alloc, place, folded, nodes.as_slice(), files),
+        Err(fault) => Err(OpenFault::of(fault)),
+    }
+}
+
+// The tables of all texts.
+pub(crate) fn open_tables<F: Files>(
+    alloc: Global,
+    specs: &Specs,
+    folded: bool,
+    files: &mut F,
+) -> Result<List<List<Node>>, OpenFault>
+    ensures { Opens (F.told files.old) (F.told files.new) (λ all. opening.tables_opened all folded specs.now) result }
+{
+    let mut tables = List::new(alloc);
+    for place in 0..specs.len() {
+        let id = TableId(place);
+        let Ok(file) = specs.file().copy(alloc) else {
+            return Err(OpenFault::NoMemory);
+        };
+        let at = Place {
+            file,
+            line: specs.line(id),
+        };
+        let table = open_table(alloc, &at, folded, specs.text(id).as_slice(), files)?;
+        let Ok(()) = tables.push(table) else {
+            return Err(OpenFault::NoMemory);
+        };
+    }
+    Ok(tables)
+}

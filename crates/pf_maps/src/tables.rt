@@ -1,0 +1,90 @@
+//! Opened tables.
+ghost use Rattle.std.specs.Prelude.{◌≡◌, ◌<◌, length, slice_get};
+ghost use Rattle.pf_asks.specs.Looking.{answer_of};
+ghost use Rattle.pf_base.specs.Clauses.Unless.{Unless};
+ghost use Rattle.pf_maps.specs.Clauses.Opened.{Opens};
+ghost use Rattle.pf_maps.specs.Clauses.Seen as seen;
+ghost use Rattle.pf_maps.specs.Opening as opening;
+
+use crate::node::Node;
+use crate::opening::{OpenFault, open_tables};
+use crate::walk::{find_table, has_partial_keys, results_of};
+use pf_asks::{Found, Lookup, Results, TableFault};
+use pf_base::{Files, List, NoMemory, Specs, TableId};
+use std::alloc::Global;
+use std::marker::Model;
+
+/// Tables that were opened, under the places of their texts.
+#[derive(Drop)]
+pub struct Tables {
+    tables: List<List<Node>>,
+    finds: u64,
+}
+
+impl Model for Tables {
+    ghost use Rattle.pf_maps.specs.Clauses.Seen.{OpenTables};
+
+    ghost Value = { OpenTables };
+
+    ghost view = { λ tables. record { tables = tables.tables; finds = tables.finds } };
+}
+
+impl Tables {
+    /// The tables of these texts, in their order. A text that names no table is refused as C9, with the file and the line of the
+    /// setting that named it and the text as its name; a file that is not there as C10, and one of more than 64 MiB as C15,
+    /// likewise with the file's name; a file's text as C1 or C11, with its own name and line. The first refusal counts. Where
+    /// `folded`, letters count as the same in either case. `Failed` comes only where the count of faults of `files` rose by one.
+    pub fn open<F: Files>(
+        alloc: Global,
+        specs: &Specs,
+        folded: bool,
+        files: &mut F,
+    ) -> Result<Tables, OpenFault>
+        ensures { Opens (F.told files.old) (F.told files.new) (λ all. seen.opened (opening.tables_opened all folded specs.now)) result }
+    {
+        let tables = open_tables(alloc, specs, folded, files)?;
+        Ok(Tables { tables, finds: 0 })
+    }
+
+    /// How many tables there are.
+    pub fn len(&self) -> u64
+        ensures { result ≡ length self.now.tables }
+    {
+        self.tables.len()
+    }
+
+    // Counts a lookup.
+    fn count_find(&mut self)
+        ensures { self.new ≡ seen.with_find self.old }
+    {
+        self.finds = self.finds.saturating_add(1);
+    }
+
+    // What the table of this place has for a key.
+    fn value(&self, alloc: Global, id: TableId, key: &[u8]) -> Result<Found, TableFault>
+        requires { id.0 < length self.now.tables }
+        ensures { Unless result TableFault.NoMemory (λ r. r ≡ answer_of (seen.meaning_in (slice_get self.now.tables id.0)) key.now) }
+    {
+        find_table(alloc, self.tables.at(id.0).as_slice(), key)
+    }
+}
+
+impl Lookup for Tables {
+    ghost tables = { seen.seen };
+
+    fn find(&mut self, alloc: Global, id: TableId, key: &[u8]) -> Result<Found, TableFault> {
+        self.count_find();
+        self.value(alloc, id, key)
+    }
+
+    fn partial_keys(&self, id: TableId) -> bool {
+        has_partial_keys(self.tables.at(id.0).as_slice())
+    }
+
+    fn results(&mut self, alloc: Global, id: TableId) -> Result<Results, TableFault> {
+        match results_of(alloc, self.tables.at(id.0).as_slice()) {
+            Ok(results) => Ok(results),
+            Err(NoMemory) => Err(TableFault::NoMemory),
+        }
+    }
+}
