@@ -2,7 +2,7 @@
 use Rattle.std.proofs.Common.{◌≡◌, ℕ, ◌<◌, Bool, true, false, refl, ap, arith, tests}
 use Rattle.std.specs.Prelude.{not, ◌||◌, nat_eq}
 use Rattle.std.proofs.lemmas.Bool.{agree_below, agree_below_at, and_from, and_parts, ne_eqb, not_from_false, or_from}
-use Rattle.pf_base.specs.Space.{is_space}
+use Rattle.pf_base.specs.Text.Space.{is_space}
 use Rattle.pf_addr.specs.Grammar.{is_lone_byte, is_name_byte, is_plain_byte}
 use Rattle.pf_addr.specs.Printed.{is_atom_byte}
 

@@ -4,7 +4,7 @@ use Rattle.std.specs.List.{prefix_len}
 use Rattle.std.proofs.lemmas.Bool.{eqb-true, or_from}
 use Rattle.std.proofs.lemmas.List.{drop_at, get_or_at, take_more}
 use Rattle.std.proofs.lemmas.List.Sums.{prefix_len-le-length}
-use Rattle.pf_base.specs.Space.{is_space}
+use Rattle.pf_base.specs.Text.Space.{is_space}
 use Rattle.pf_addr.specs.Grammar.{IsMailbox, IsPath, IsRoute, IsSpelling, none, domains, null, bracketed, bare, is_end, is_plain_byte}
 use Rattle.pf_addr.specs.Clauses.Reading as reading
 use Rattle.pf_addr.specs.Clauses.Reading.{address_of, mailbox, mailbox_len, route_len}

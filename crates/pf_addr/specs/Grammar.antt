@@ -2,8 +2,8 @@
 use Rattle.std.specs.Prelude.{ℕ, ◌+◌, ◌<◌, ◌≤◌, ◌≡◌, ◌==◌, ◌&&◌, ◌||◌, Bool, true, false, not, nat_lt, nat_le, List, [], ◌∷◌, ◌++◌, Result, Ok, Err, length, codes}
 use Rattle.std.specs.Char.{is_ascii_alphanumeric}
 use Rattle.std.specs.List.{list_all, list_any, slice_split}
-use Rattle.pf_base.specs.Ascii as ascii
-use Rattle.pf_base.specs.Space.{is_space}
+use Rattle.pf_base.specs.Text.Ascii as ascii
+use Rattle.pf_base.specs.Text.Space.{is_space}
 use Rattle.pf_addr.specs.declared.address.Address.{Address}
 use Rattle.pf_addr.specs.declared.address.Path.{Path}
 use Rattle.pf_addr.specs.declared.address.Path.TheVariants.{Null, To}

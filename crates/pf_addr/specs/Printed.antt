@@ -6,7 +6,7 @@ use Rattle.pf_addr.specs.declared.address.Address.{Address}
 use Rattle.pf_addr.specs.declared.address.Path.TheVariants.{To}
 use Rattle.pf_addr.specs.declared.address.PathRead.{PathRead}
 use Rattle.pf_addr.specs.Grammar.{IsDomain}
-use Rattle.pf_base.specs.Ascii as ascii
+use Rattle.pf_base.specs.Text.Ascii as ascii
 
 -- atext (RFC 5322, 3.2.3), and the dot
 unfoldable pub is_atom_byte : ℕ → Bool

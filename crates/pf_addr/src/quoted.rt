@@ -1,6 +1,6 @@
 //! Quoted strings of local parts (RFC 5321, 4.1.2).
 ghost use Rattle.std.specs.Prelude.{◌≡◌, ◌<◌, ◌==◌, ◌&&◌, length, false, not, IfOk, IfSome};
-ghost use Rattle.pf_base.specs.Ascii as ascii;
+ghost use Rattle.pf_base.specs.Text.Ascii as ascii;
 ghost use Rattle.pf_addr.specs.Clauses.Reading as reading;
 
 use pf_base::{Bytes, NoMemory};

@@ -1,7 +1,7 @@
 //! Paths as MAIL and RCPT carry them (RFC 5321, 4.1.2).
 ghost use Rattle.std.specs.Prelude.{◌≡◌, ◌≤◌, ◌<◌, ◌+◌, ◌^◌, length, IfOk, IfSome};
 ghost use Rattle.std.specs.List.{prefix_len};
-ghost use Rattle.pf_base.specs.Space as space;
+ghost use Rattle.pf_base.specs.Text.Space as space;
 ghost use Rattle.pf_base.specs.Clauses.Unless.{Unless};
 ghost use Rattle.pf_addr.specs.Grammar.{Reads};
 ghost use Rattle.pf_addr.specs.Grammar as grammar;

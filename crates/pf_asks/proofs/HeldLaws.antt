@@ -5,7 +5,7 @@ use Rattle.std.specs.Prelude.{cond, unwrap_or}
 use Rattle.std.specs.List.{count_by, list_all}
 use Rattle.std.proofs.lemmas.List.Folds.{list_all-append}
 use Rattle.std.proofs.lemmas.List.Sums.{sum_by-append}
-use Rattle.pf_base.specs.Counts.{counted_by}
+use Rattle.pf_base.specs.Outside.Counts.{counted_by}
 use Rattle.pf_asks.specs.Clauses.Held.{Answered, Held, Hears, Holds, Tells, called, failures, is_failure, is_meant_or_failure}
 
 pub counted_none : (n : ℕ) → n ≡ counted_by 0 n

@@ -2,7 +2,7 @@
 use Rattle.std.specs.Prelude.{◌≢◌, ℕ, ◌&&◌, Bool, true, false, List, [], Option, None, Some, Result, Ok, Err}
 use Rattle.std.specs.List.{find}
 use Rattle.std.specs.Str.{bytes_eq}
-use Rattle.pf_base.specs.Names.{folded}
+use Rattle.pf_base.specs.Text.Names.{folded}
 use Rattle.pf_asks.specs.declared.resolver.Answer.{Answer}
 use Rattle.pf_asks.specs.declared.resolver.Answer.TheVariants.{Found, Missing, Again}
 use Rattle.pf_asks.specs.declared.resolver.AskFault.{AskFault}

@@ -3,7 +3,7 @@ ghost use Rattle.std.specs.Prelude.{◌≡◌, ◌==◌, ◌&&◌, IfOk};
 ghost use Rattle.std.specs.List.{find, list_any};
 ghost use Rattle.std.specs.Option.{option_copied};
 ghost use Rattle.std.specs.Str.{bytes_eq};
-ghost use Rattle.pf_base.specs.Names.{folded};
+ghost use Rattle.pf_base.specs.Text.Names.{folded};
 ghost use Rattle.pf_base.specs.Clauses.Unless.{Unless};
 ghost use Rattle.pf_asks.specs.Clauses.Held.{Answered, called};
 ghost use Rattle.pf_asks.specs.Clauses.Memory as memory;

@@ -1,7 +1,7 @@
 //! Policy services in memory, each try of which gives the next of the outcomes that they are made with.
 ghost use Rattle.std.specs.Io.{ReadsAtMost};
 ghost use Rattle.std.specs.Prelude.{◌≡◌, [], None, is_err, length, min, take, IfOk, OnOk, OnErr};
-ghost use Rattle.pf_base.specs.Counts.{counted_by};
+ghost use Rattle.pf_base.specs.Outside.Counts.{counted_by};
 ghost use Rattle.pf_asks.specs.Clauses.Causes.{counted_if};
 ghost use Rattle.pf_asks.specs.Clauses.MemoryLinks as memory;
 ghost use Rattle.pf_asks.specs.Wire.{Receives, begun, hung_up, next_outcome, reply_bytes};

@@ -1,7 +1,7 @@
 -- Lemmas on braces and their partners.
 use Rattle.std.proofs.Common.{ℕ, ◌+◌, nat_lt, List, Option, Some, if◌then◌else◌}
 use Rattle.std.specs.Option.{option_map}
-use Rattle.pf_base.specs.Braces.{closing, lone_brace}
+use Rattle.pf_base.specs.Text.Braces.{closing, lone_brace}
 
 -- the first brace without a partner, as it is known at a place: the outermost one that is open, or the first one from here on
 abbrev pub found_from : ℕ → ℕ → ℕ → List ℕ → Option ℕ

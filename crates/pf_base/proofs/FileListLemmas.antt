@@ -5,7 +5,7 @@ use Rattle.std.specs.Str.{bytes_eq}
 use Rattle.std.proofs.lemmas.List.Sums.{fails_before_first}
 use Rattle.std.proofs.lemmas.List.Quantifiers.{position-Some}
 use Rattle.std.proofs.lemmas.Bool.{ltb-false}
-use Rattle.pf_base.specs.FileList.{with_file}
+use Rattle.pf_base.specs.Outside.FileList.{with_file}
 use Rattle.pf_base.specs.declared.pair.Pair.{Pair}
 
 abbrev pub is_named : List ℕ → Pair → Bool

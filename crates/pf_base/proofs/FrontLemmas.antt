@@ -5,7 +5,7 @@ use Rattle.std.proofs.lemmas.Grind.{flat_map-append}
 use Rattle.std.proofs.lemmas.List.{map-append, take-append-drop, take-append-le}
 use Rattle.std.specs.List.{flat_map}
 use Rattle.pf_base.specs.Clauses.Fronts.{AddsFront}
-use Rattle.pf_base.specs.Printing.{printable, printed}
+use Rattle.pf_base.specs.Text.Printing.{printable, printed}
 
 -- a text is a front of one that goes on
 pub whole_front : (old new text more : List ℕ) → new ≡ old ++ text → AddsFront old new (text ++ more)

@@ -5,7 +5,7 @@ use Rattle.std.specs.Prelude.{◌⊎◌}
 use Rattle.std.proofs.lemmas.Bool.{ne_eqb}
 use Rattle.std.proofs.lemmas.List.{append_cancel_left, drop_more, get_or-take, get_or_default, length-reverse, length-take-le, length_push, reverse-append, take-append-drop, take_at}
 use Rattle.std.proofs.lemmas.List.Splits.{join_with_byte-slice_split, slice_split-cons_no, slice_split-cons_yes, slice_split_at, slice_split_none}
-use Rattle.pf_base.specs.Lines.{is_feed, lines, parts, rest}
+use Rattle.pf_base.specs.Text.Lines.{is_feed, lines, parts, rest}
 use Rattle.pf_base.specs.Clauses.Pieces.{onto_line, unless_line}
 
 -- how many pass a test from the end back, where one more stands in front

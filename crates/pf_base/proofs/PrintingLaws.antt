@@ -3,8 +3,8 @@ use Rattle.std.proofs.Common.{◌≡◌, ◌≢◌, ℕ, Bool, true, false, List
 use Rattle.std.proofs.lemmas.Bool.{ltb-false}
 use Rattle.std.specs.Prelude.{◌||◌, nat_lt, ◌==◌}
 use Rattle.pf_base.proofs.LineEnds.{HasNoFeed, lines_of_line}
-use Rattle.pf_base.specs.Lines.{lines}
-use Rattle.pf_base.specs.Printing.{printable, printed, printed_line}
+use Rattle.pf_base.specs.Text.Lines.{lines}
+use Rattle.pf_base.specs.Text.Printing.{printable, printed, printed_line}
 
 -- no byte prints as a line feed
 no_feed : (b : ℕ) → printable b ≢ 10

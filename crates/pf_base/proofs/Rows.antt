@@ -1,29 +1,29 @@
 -- Worked examples of the definitions, each by computation.
 use Rattle.std.proofs.Common.{◌≡◌, ℕ, true, false, List, [], ◌∷◌, None, Some, Ok, Err, refl, codes, map}
-use Rattle.pf_base.specs.Braces.{lone_brace, partner}
-use Rattle.pf_base.specs.Counts.{counted, counted_by}
-use Rattle.pf_base.specs.FileList.{file_of, whole_file, with_file}
+use Rattle.pf_base.specs.Text.Braces.{lone_brace, partner}
+use Rattle.pf_base.specs.Outside.Counts.{counted, counted_by}
+use Rattle.pf_base.specs.Outside.FileList.{file_of, whole_file, with_file}
 use Rattle.pf_base.specs.Clauses.Gathering.{followed_by}
-use Rattle.pf_base.specs.Lines.{is_feed, lines, parts, rest, without_return}
-use Rattle.pf_base.specs.Logical.{grouped, is_ignored, logical_lines_of, physical_lines, starts_with_space}
+use Rattle.pf_base.specs.Text.Lines.{is_feed, lines, parts, rest, without_return}
+use Rattle.pf_base.specs.Text.Logical.{grouped, is_ignored, logical_lines_of, physical_lines, starts_with_space}
 use Rattle.pf_base.specs.Clauses.Memory.{fails_next, greatest_read}
-use Rattle.pf_base.specs.Names.{folded, is_host_name, is_label, is_label_byte, same_in_any_case}
-use Rattle.pf_base.specs.Objects.{appended, sink_status, sinks}
+use Rattle.pf_base.specs.Text.Names.{folded, is_host_name, is_label, is_label_byte, same_in_any_case}
+use Rattle.pf_base.specs.Outside.Objects.{appended, sink_status, sinks}
 use Rattle.pf_base.specs.Clauses.Pieces.{onto_line, unless_line}
-use Rattle.pf_base.specs.Printing.{printable, printed_line}
+use Rattle.pf_base.specs.Text.Printing.{printable, printed_line}
 use Rattle.pf_base.specs.Refusal.{cause_text, name_part, refusal_line}
 use Rattle.std.specs.Fmt.{digits}
-use Rattle.pf_base.specs.Space.{is_space, trimmed, without_leading_space, without_trailing_space}
-use Rattle.pf_base.specs.Statuses.{is_among, without_fault}
+use Rattle.pf_base.specs.Text.Space.{is_space, trimmed, without_leading_space, without_trailing_space}
+use Rattle.pf_base.specs.Outside.Statuses.{is_among, without_fault}
 use Rattle.pf_base.specs.TableTexts.{place_of, place_or_next, with_text}
-use Rattle.pf_base.specs.Told.{Output}
-use Rattle.pf_base.specs.Words.{words_of}
-use Rattle.pf_base.specs.declared.logical.TextFault.TheVariants.{Continuation}
+use Rattle.pf_base.specs.Outside.Told.{Output}
+use Rattle.pf_base.specs.Text.Words.{words_of}
+use Rattle.pf_base.specs.declared.text.logical.TextFault.TheVariants.{Continuation}
 use Rattle.pf_base.specs.declared.pair.Pair.{Pair}
 use Rattle.pf_base.specs.declared.refused.Cause.TheVariants.{C2, C14}
 use Rattle.pf_base.specs.declared.table_texts.TableText.{TableText}
-use Rattle.pf_base.specs.declared.texts.SinkFault.TheVariants as fault
-use Rattle.pf_base.specs.declared.words.WordsFault.TheVariants.{Unbalanced}
+use Rattle.pf_base.specs.declared.outside.texts.SinkFault.TheVariants as fault
+use Rattle.pf_base.specs.declared.text.words.WordsFault.TheVariants.{Unbalanced}
 
 -- a count
 count_rises : counted 0 ≡ 1

@@ -3,14 +3,14 @@ use Rattle.std.proofs.Common.{◌≡◌, ℕ, Bool, true, false, zero, suc, List
 use Rattle.std.proofs.lemmas.Bool.{false≢true, ne_eqb}
 use Rattle.std.specs.Prelude.{⊤, ◌⊎◌}
 use Rattle.pf_base.proofs.ToldLemmas.{wrote_none}
-use Rattle.pf_base.specs.Counts.{counted}
-use Rattle.pf_base.specs.Objects.{Objects, Says, Sinks, StopsBy, sink_status, status_of}
-use Rattle.pf_base.specs.Statuses.{Counts, HasCauses, NoneRose, counted_if, counts_of, is_among, without_fault}
-use Rattle.pf_base.specs.Told.{Output, Tree, HoldsFront, wrote}
-use Rattle.pf_base.specs.declared.status.TheConstants.{DONE, FILES_FAILED, INPUT_FAILED, NO_MEMORY, REFUSED, USAGE, WARNED}
-use Rattle.pf_base.specs.declared.texts.SinkFault.{SinkFault}
-use Rattle.pf_base.specs.declared.texts.SinkFault.TheVariants as fault
-use Rattle.pf_base.specs.declared.texts.Texts.{Texts}
+use Rattle.pf_base.specs.Outside.Counts.{counted}
+use Rattle.pf_base.specs.Outside.Objects.{Objects, Says, Sinks, StopsBy, sink_status, status_of}
+use Rattle.pf_base.specs.Outside.Statuses.{Counts, HasCauses, NoneRose, counted_if, counts_of, is_among, without_fault}
+use Rattle.pf_base.specs.Outside.Told.{Output, Tree, HoldsFront, wrote}
+use Rattle.pf_base.specs.declared.outside.status.TheConstants.{DONE, FILES_FAILED, INPUT_FAILED, NO_MEMORY, REFUSED, USAGE, WARNED}
+use Rattle.pf_base.specs.declared.outside.texts.SinkFault.{SinkFault}
+use Rattle.pf_base.specs.declared.outside.texts.SinkFault.TheVariants as fault
+use Rattle.pf_base.specs.declared.outside.texts.Texts.{Texts}
 
 pub counts_same : {a b : Counts} → a.input ≡ b.input → a.out ≡ b.out → a.mail ≡ b.mail → a.log ≡ b.log → a.files ≡ b.files → a ≡ b
 counts_same input out mail log files = rw (input, out, mail, log, files)

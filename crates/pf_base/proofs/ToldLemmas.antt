@@ -1,9 +1,9 @@
 -- What an object told, over several calls.
 use Rattle.std.proofs.Common.{◌≡◌, List, [], ◌++◌, ℕ, Option, Some, None, refl, sym, ap, ◌∙◌, arith, inl, append_assoc, append-nil, length-append}
-use Rattle.pf_base.specs.Objects.{Sinks, StopsBy, appended, joined}
-use Rattle.pf_base.specs.Told.{HoldsFront, Input, Output, Takes, wrote}
-use Rattle.pf_base.specs.declared.texts.SinkFault.TheVariants as fault
-use Rattle.pf_base.specs.declared.texts.Texts.{Texts}
+use Rattle.pf_base.specs.Outside.Objects.{Sinks, StopsBy, appended, joined}
+use Rattle.pf_base.specs.Outside.Told.{HoldsFront, Input, Output, Takes, wrote}
+use Rattle.pf_base.specs.declared.outside.texts.SinkFault.TheVariants as fault
+use Rattle.pf_base.specs.declared.outside.texts.Texts.{Texts}
 use Rattle.std.specs.Io.KnownBytes.{append_known, prepend_known}
 
 pub append_known-nil : (k : Option (List ℕ)) → append_known k [] ≡ k

@@ -2,8 +2,8 @@
 use Rattle.std.proofs.Common.{◌≡◌, ℕ, true, false, if◌then◌else◌, List, [], ◌∷◌, ◌++◌, refl}
 use Rattle.std.specs.List.{onto_first}
 use Rattle.std.specs.Prelude.{◌&&◌, ◌==◌}
-use Rattle.pf_base.specs.Braces.{open_behind}
-use Rattle.pf_base.specs.Words.{is_separator, parted}
+use Rattle.pf_base.specs.Text.Braces.{open_behind}
+use Rattle.pf_base.specs.Text.Words.{is_separator, parted}
 
 -- the parts, the first of which has these bytes before it
 abbrev pub onto_part : List ℕ → List (List ℕ) → List (List ℕ)

@@ -3,9 +3,14 @@
 ghost use Rattle.std.specs.Prelude.{◌≡◌, List as Seq, [], Some, length, IfOk, unwrap_or};
 ghost use Rattle.std.specs.Option.{option_map};
 ghost use Rattle.std.specs.Io.{ReadsAtMost};
-ghost use Rattle.pf_base.specs.FileList.{file_of, ReadsFrom};
-ghost use Rattle.pf_base.specs.Told.{Input, Looks, Output, Reads, Replaces, Tree, Writes, read_once};
+ghost use Rattle.pf_base.specs.Outside.FileList.{file_of, ReadsFrom};
+ghost use Rattle.pf_base.specs.Outside.Told.{Input, Looks, Output, Reads, Replaces, Tree, Writes, read_once};
 ghost use Rattle.pf_base.specs.declared.pair.Pair.{Pair};
+
+pub(crate) mod memory;
+pub(crate) mod reading;
+pub mod status;
+pub(crate) mod texts;
 
 use crate::fault::{Failed, OuterFault};
 

@@ -4,8 +4,8 @@ ghost use Rattle.pf_base.specs.Refusal as refusal;
 
 use crate::bytes::Bytes;
 use crate::fault::NoMemory;
-use crate::numbers::decimal;
-use crate::printing::add_line;
+use crate::text::numbers::decimal;
+use crate::text::printing::add_line;
 use std::alloc::Global;
 
 /// The cause of a refusal, in the order of the codes, which are postgate's own.

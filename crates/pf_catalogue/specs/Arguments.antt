@@ -1,6 +1,6 @@
 -- The words of lists that take an argument (postconf(5), smtpd_recipient_restrictions and local_header_rewrite_clients).
 use Rattle.std.specs.Prelude.{ℕ, ◌||◌, Bool, List, codes, if◌then◌else◌}
-use Rattle.pf_base.specs.Names.{same_in_any_case}
+use Rattle.pf_base.specs.Text.Names.{same_in_any_case}
 use Rattle.pf_catalogue.specs.declared.arguments.Argument.{Argument}
 use Rattle.pf_catalogue.specs.declared.arguments.Argument.TheVariants.{Nothing, Table, Text}
 use Rattle.pf_catalogue.specs.declared.kind.Kind.{Kind}

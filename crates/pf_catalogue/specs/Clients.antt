@@ -1,6 +1,6 @@
 -- The clients whose headers are rewritten (postconf(5), local_header_rewrite_clients).
 use Rattle.std.specs.Prelude.{ℕ, ◌||◌, ◌&&◌, Bool, true, false, not, List, [], ◌∷◌, codes, if◌then◌else◌}
-use Rattle.pf_base.specs.Names.{same_in_any_case}
+use Rattle.pf_base.specs.Text.Names.{same_in_any_case}
 use Rattle.pf_catalogue.specs.Arguments.{argument_of}
 use Rattle.pf_catalogue.specs.Lists.{is_file}
 use Rattle.pf_catalogue.specs.declared.arguments.Argument.{Argument}

@@ -3,7 +3,7 @@
 use Rattle.std.specs.Prelude.{ℕ, ◌==◌, ◌||◌, ◌&&◌, Bool, false, not, List, [], ◌∷◌, Option, None, Some, codes, if◌then◌else◌}
 use Rattle.std.specs.List.{list_all, list_any}
 use Rattle.std.specs.Str.{bytes_eq}
-use Rattle.pf_base.specs.Ascii as ascii
+use Rattle.pf_base.specs.Text.Ascii as ascii
 
 -- a file's name begins with a slash
 abbrev pub is_file : List ℕ → Bool

@@ -3,9 +3,9 @@ use Rattle.std.specs.Prelude.{ℕ, ◌≤◌, Bool, true, false, List, [], Optio
 use Rattle.std.specs.List.{list_all}
 use Rattle.std.specs.Option.{option_map}
 use Rattle.std.specs.Str.{bytes_eq}
-use Rattle.pf_base.specs.Names.{same_in_any_case}
-use Rattle.pf_base.specs.Words.{words_of}
-use Rattle.pf_base.specs.declared.words.WordsFault.{WordsFault}
+use Rattle.pf_base.specs.Text.Names.{same_in_any_case}
+use Rattle.pf_base.specs.Text.Words.{words_of}
+use Rattle.pf_base.specs.declared.text.words.WordsFault.{WordsFault}
 use Rattle.pf_catalogue.specs.Clients.{are_rewrite_clients}
 use Rattle.pf_catalogue.specs.Lists.{has_no_file, is_address_kind, is_extension_way, is_file}
 use Rattle.pf_catalogue.specs.Numbers.{number_within}

@@ -55,7 +55,9 @@ fn has_room(at: u64, records: usize, key: &[u8], value: &[u8]) -> bool
     let key = key.len() as u64;
     let value = value.len() as u64;
     let slots = 2 * SLOT_SIZE as u64 * (records as u64 + 1);
-    key <= FILE_LIMIT && value <= FILE_LIMIT && at + LENGTHS_SIZE as u64 + key + value + slots <= FILE_LIMIT
+    key <= FILE_LIMIT
+        && value <= FILE_LIMIT
+        && at + LENGTHS_SIZE as u64 + key + value + slots <= FILE_LIMIT
 }
 
 // Adds a record.

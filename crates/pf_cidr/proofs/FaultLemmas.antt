@@ -1,8 +1,8 @@
 -- What becomes of a text whose logical lines were read.
 use Rattle.std.proofs.Common.{◌≡◌, ℕ, List, [], ◌∷◌, Ok, Err, sym, ap}
-use Rattle.pf_base.specs.Logical.{Physical, grouped, logical_lines_of, physical_lines, unless_leading}
-use Rattle.pf_base.specs.declared.logical.Logical.{Logical}
-use Rattle.pf_base.specs.declared.logical.TextFault.TheVariants.{Continuation}
+use Rattle.pf_base.specs.Text.Logical.{Physical, grouped, logical_lines_of, physical_lines, unless_leading}
+use Rattle.pf_base.specs.declared.text.logical.Logical.{Logical}
+use Rattle.pf_base.specs.declared.text.logical.TextFault.TheVariants.{Continuation}
 use Rattle.pf_base.specs.declared.refused.Cause.TheVariants.{C1}
 use Rattle.pf_cidr.specs.Tables.{or_refused, refused, table_of, table_with, unless_continued}
 

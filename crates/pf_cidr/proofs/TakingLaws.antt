@@ -4,7 +4,7 @@ use Rattle.std.specs.Prelude.{if◌then◌else◌}
 use Rattle.std.proofs.lemmas.Bool.{ne_eqb}
 use Rattle.std.proofs.lemmas.List.{drop_all, drop_more}
 use Rattle.pf_base.specs.Results.{◌>>=◌}
-use Rattle.pf_base.specs.declared.logical.Logical.{Logical}
+use Rattle.pf_base.specs.declared.text.logical.Logical.{Logical}
 use Rattle.pf_cidr.specs.Clauses.Taking.{closed, finished, taken, takes, with_condition, with_rule}
 use Rattle.pf_cidr.specs.Tables.{Line, Table, at_line, closes, entries_of, entry_of, first_unclosed, lines_of, open_behind, results_of, table_with, unless_unclosed, value_of}
 use Rattle.pf_cidr.specs.declared.entry.Entry.{Entry}

@@ -2,12 +2,12 @@
 -- postgate's own.
 use Rattle.std.specs.Prelude.{ℕ, zero, suc, ◌==◌, Bool, true, false, not, List, [], ◌∷◌, Option, Some, None, Result, Ok, Err, codes, length, map, take, drop, slice_index, if◌then◌else◌}
 use Rattle.std.specs.List.{flat_map, list_all, position_from, position_or_len}
-use Rattle.pf_base.specs.Ascii as ascii
-use Rattle.pf_base.specs.Logical.{Grouped, Physical, grouped, physical_lines}
-use Rattle.pf_base.specs.Names.{same_in_any_case}
+use Rattle.pf_base.specs.Text.Ascii as ascii
+use Rattle.pf_base.specs.Text.Logical.{Grouped, Physical, grouped, physical_lines}
+use Rattle.pf_base.specs.Text.Names.{same_in_any_case}
 use Rattle.pf_base.specs.Results.{◌>>=◌}
-use Rattle.pf_base.specs.Space.{is_space, trimmed}
-use Rattle.pf_base.specs.declared.logical.Logical.{Logical}
+use Rattle.pf_base.specs.Text.Space.{is_space, trimmed}
+use Rattle.pf_base.specs.declared.text.logical.Logical.{Logical}
 use Rattle.pf_base.specs.declared.refused.Cause.{Cause}
 use Rattle.pf_base.specs.declared.refused.Cause.TheVariants.{C1, C11}
 use Rattle.pf_base.specs.declared.refused.Refused.{Refused}

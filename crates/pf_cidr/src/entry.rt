@@ -1,7 +1,7 @@
 //! The lines of a table.
 ghost use Rattle.std.specs.Prelude.{◌≡◌, ◌≤◌, length};
 ghost use Rattle.std.specs.List.{position_or_len};
-ghost use Rattle.pf_base.specs.Space as space;
+ghost use Rattle.pf_base.specs.Text.Space as space;
 ghost use Rattle.pf_cidr.specs.Tables as tables;
 
 use crate::address::Addr;

@@ -2,8 +2,8 @@
 use Rattle.std.specs.Prelude.{ℕ, ◌≡◌, ◌==◌, ◌&&◌, ◌||◌, Bool, true, List, Option, Some, None, if◌then◌else◌}
 use Rattle.std.specs.List.{after_last, before_last, list_any}
 use Rattle.std.specs.Option.{option_or}
-use Rattle.pf_base.specs.Ascii as ascii
-use Rattle.pf_base.specs.Names.{same_in_any_case}
+use Rattle.pf_base.specs.Text.Ascii as ascii
+use Rattle.pf_base.specs.Text.Names.{same_in_any_case}
 use Rattle.pf_addr.specs.declared.address.Address.{Address}
 use Rattle.pf_class.specs.Standard.{parted, standard, user_at}
 use Rattle.pf_class.specs.declared.rules.Rules.{Rules}

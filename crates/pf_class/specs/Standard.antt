@@ -3,8 +3,8 @@
 use Rattle.std.specs.Prelude.{ℕ, ◌-◌, ◌==◌, ◌&&◌, Bool, not, nat_lt, List, ◌∷◌, ◌++◌, Option, Some, None, length, slice_index, take, unwrap_or, if◌then◌else◌}
 use Rattle.std.specs.List.{after_first, after_last, before_first, before_last, list_any}
 use Rattle.std.specs.Option.{option_or}
-use Rattle.pf_base.specs.Ascii as ascii
-use Rattle.pf_base.specs.Names.{same_in_any_case}
+use Rattle.pf_base.specs.Text.Ascii as ascii
+use Rattle.pf_base.specs.Text.Names.{same_in_any_case}
 use Rattle.pf_addr.specs.declared.address.Address.{Address}
 use Rattle.pf_class.specs.declared.rules.Rules.{Rules}
 

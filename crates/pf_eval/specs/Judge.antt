@@ -1,7 +1,7 @@
 -- What a list of restrictions says of a client and a recipient's domain (SMTPD_ACCESS_README; postconf(5), smtpd_relay_restrictions).
 use Rattle.std.specs.Prelude.{ℕ, ◌+◌, Bool, List, [], ◌∷◌, if◌then◌else◌}
 use Rattle.std.specs.List.{list_any}
-use Rattle.pf_base.specs.Names.{same_in_any_case}
+use Rattle.pf_base.specs.Text.Names.{same_in_any_case}
 use Rattle.pf_eval.specs.Nets.{net_has}
 use Rattle.pf_eval.specs.declared.policy.PlainPolicy.{PlainPolicy}
 use Rattle.pf_eval.specs.declared.policy.PlainItem.{PlainItem}

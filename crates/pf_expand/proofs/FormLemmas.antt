@@ -5,8 +5,8 @@ use Rattle.std.proofs.lemmas.List.{length-drop, length-take-le}
 use Rattle.std.proofs.lemmas.List.Sums.{prefix_len-le-length}
 use Rattle.std.specs.List.{list_all, position, position_or_len, prefix_len}
 use Rattle.std.specs.Option.{option_and_then, option_map}
-use Rattle.pf_base.specs.Braces.{open_behind, partner}
-use Rattle.pf_base.specs.Space.{is_space, trimmed, without_leading_space}
+use Rattle.pf_base.specs.Text.Braces.{open_behind, partner}
+use Rattle.pf_base.specs.Text.Space.{is_space, trimmed, without_leading_space}
 use Rattle.pf_expand.specs.Forms.{Part, before, begins_with_brace, behind_brace, behind_name, brace_content, braced, first_part, form_before, form_of, if_alone, if_empty, if_full, in_brace, in_parenthesis, is_name_byte, name_before, one_text, parenthesised, plain_length, second_text, two_braces, with_brace, with_name, with_name_alone, with_parenthesis}
 use Rattle.pf_expand.specs.Forms.{Part as part}
 

@@ -4,9 +4,9 @@ use Rattle.std.specs.Prelude.{ℕ, ◌+◌, ◌==◌, ◌||◌, ◌&&◌, Bool, 
 use Rattle.std.specs.Char.{is_ascii_alphanumeric}
 use Rattle.std.specs.List.{list_all, position, position_or_len, prefix_len}
 use Rattle.std.specs.Option.{option_and_then, option_map}
-use Rattle.pf_base.specs.Ascii as ascii
-use Rattle.pf_base.specs.Braces.{partner}
-use Rattle.pf_base.specs.Space.{trimmed, without_leading_space}
+use Rattle.pf_base.specs.Text.Ascii as ascii
+use Rattle.pf_base.specs.Text.Braces.{partner}
+use Rattle.pf_base.specs.Text.Space.{trimmed, without_leading_space}
 
 -- letters, digits and the underscore
 abbrev pub is_name_byte : ℕ → Bool

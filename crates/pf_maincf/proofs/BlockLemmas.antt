@@ -2,8 +2,8 @@
 use Rattle.std.proofs.Common.{◌≡◌, ℕ, ◌++◌, true, not, List, [], ◌∷◌, Option, Some, None, refl, ap, ◌∙◌, append_assoc, append-nil}
 use Rattle.std.specs.Prelude.{filter}
 use Rattle.std.specs.List.{flat_map}
-use Rattle.pf_base.specs.Lines.{without_return}
-use Rattle.pf_base.specs.Logical.{is_ignored, starts_with_space}
+use Rattle.pf_base.specs.Text.Lines.{without_return}
+use Rattle.pf_base.specs.Text.Logical.{is_ignored, starts_with_space}
 use Rattle.pf_maincf.proofs.Ends.{either_way}
 use Rattle.pf_maincf.proofs.SetLines.{and_left, not_true}
 use Rattle.pf_maincf.specs.Edit.{Blocks, Line, before_blocks, begins_logical, counts_for_nothing, edited_block, edited_by, set_at, set_line, standing}

@@ -4,9 +4,9 @@ use Rattle.std.specs.Prelude.{map}
 use Rattle.std.specs.List.{list_all}
 use Rattle.std.specs.Option.{option_map}
 use Rattle.pf_base.proofs.LineEnds.{parts_are}
-use Rattle.pf_base.specs.Lines.{without_return}
-use Rattle.pf_base.specs.Logical.{Grouped, Physical, alone, grouped, is_ignored, numbered, physical_lines, starts_with_space, unless_ignored}
-use Rattle.pf_base.specs.declared.logical.Logical.{Logical}
+use Rattle.pf_base.specs.Text.Lines.{without_return}
+use Rattle.pf_base.specs.Text.Logical.{Grouped, Physical, alone, grouped, is_ignored, numbered, physical_lines, starts_with_space, unless_ignored}
+use Rattle.pf_base.specs.declared.text.logical.Logical.{Logical}
 use Rattle.pf_base.specs.declared.refused.Refused.{Refused}
 use Rattle.pf_maincf.specs.Edit.{AreSets, IsEditOf, edited, edited_in, edited_lines, edited_text, is_writable, placed, set_at, value_of}
 use Rattle.pf_maincf.specs.Settings.{Conf, conf_of, last_setting}

@@ -2,9 +2,9 @@
 use Rattle.std.proofs.Common.{◌≡◌, ℕ, arith, length, ◌+◌, true, false, List, [], ◌∷◌, ◌++◌, Some, None, Option, refl, sym, ap, ◌∙◌, append_assoc, append-nil}
 use Rattle.std.specs.Prelude.{map}
 use Rattle.std.specs.List.{fold}
-use Rattle.pf_base.specs.Lines.{lines, rest, without_return}
-use Rattle.pf_base.specs.Logical.{Physical, Grouped, alone, grouped, is_ignored, numbered, physical_lines, starts_with_space, unless_ignored}
-use Rattle.pf_base.specs.declared.logical.Logical.{Logical}
+use Rattle.pf_base.specs.Text.Lines.{lines, rest, without_return}
+use Rattle.pf_base.specs.Text.Logical.{Physical, Grouped, alone, grouped, is_ignored, numbered, physical_lines, starts_with_space, unless_ignored}
+use Rattle.pf_base.specs.declared.text.logical.Logical.{Logical}
 use Rattle.pf_base.proofs.LineEnds.{lines-append, lines-cons, lines-nil, parts_are, rest-append, rest-cons, rest-nil}
 use Rattle.std.proofs.lemmas.Bool.{eqb-true}
 use Rattle.pf_maincf.specs.Edit.{Line, blocks_from, edited_lines, feed_behind, is_ended, set_at, set_line, with_line}

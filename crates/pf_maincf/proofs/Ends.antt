@@ -2,7 +2,7 @@
 use Rattle.std.proofs.Common.{◌≡◌, ℕ, Bool, true, false, if◌then◌else◌, ◌||◌, ◌-◌, ◌≤◌, List, [], ◌∷◌, ◌++◌, length, get_or, refl, sym, ap, ◌∙◌, arith, eqb, Option, Some, None}
 use Rattle.std.specs.List.{list_any}
 use Rattle.std.proofs.lemmas.Bool.{ne_eqb}
-use Rattle.pf_base.specs.Lines.{lines, rest}
+use Rattle.pf_base.specs.Text.Lines.{lines, rest}
 use Rattle.pf_base.specs.Clauses.Pieces.{onto_line, unless_line}
 use Rattle.pf_base.proofs.LineEnds.{lines-cons, lines-nil, rest-cons, rest-nil, rest_of_none}
 use Rattle.pf_maincf.specs.Edit.{is_ended}

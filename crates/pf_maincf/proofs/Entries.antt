@@ -3,10 +3,10 @@ use Rattle.std.proofs.Common.{◌≡◌, ℕ, ◌+◌, true, List, [], ◌∷◌
 use Rattle.std.specs.Prelude.{map, take, drop}
 use Rattle.std.specs.List.{position}
 use Rattle.std.specs.Option.{option_map}
-use Rattle.pf_base.specs.Logical.{Grouped, Physical, grouped, physical_lines}
+use Rattle.pf_base.specs.Text.Logical.{Grouped, Physical, grouped, physical_lines}
 use Rattle.pf_base.specs.Results.{◌>>=◌}
-use Rattle.pf_base.specs.Space.{trimmed}
-use Rattle.pf_base.specs.declared.logical.Logical.{Logical}
+use Rattle.pf_base.specs.Text.Space.{trimmed}
+use Rattle.pf_base.specs.declared.text.logical.Logical.{Logical}
 use Rattle.pf_base.specs.declared.refused.Refused.{Refused}
 use Rattle.pf_maincf.specs.Settings.{Conf, conf_of, conf_with, is_name, or_refused, setting_of, settings_in, settings_of, unless_continued}
 use Rattle.pf_maincf.specs.declared.setting.Setting.{Setting}

@@ -1,9 +1,9 @@
 -- What a call that hands on refusals as faults was answered.
 use Rattle.std.proofs.Common.{◌≡◌, ℕ, List, [], ◌∷◌, Result, Ok, Err, refl, sym, ap, ◌∙◌}
-use Rattle.pf_base.specs.Logical.{Grouped, Physical, grouped, logical_lines_of, physical_lines, unless_leading}
-use Rattle.pf_base.specs.declared.logical.Logical.{Logical}
-use Rattle.pf_base.specs.declared.logical.TextFault.{TextFault}
-use Rattle.pf_base.specs.declared.logical.TextFault.TheVariants.{Continuation}
+use Rattle.pf_base.specs.Text.Logical.{Grouped, Physical, grouped, logical_lines_of, physical_lines, unless_leading}
+use Rattle.pf_base.specs.declared.text.logical.Logical.{Logical}
+use Rattle.pf_base.specs.declared.text.logical.TextFault.{TextFault}
+use Rattle.pf_base.specs.declared.text.logical.TextFault.TheVariants.{Continuation}
 use Rattle.pf_base.specs.declared.refused.Cause.TheVariants.{C1}
 use Rattle.pf_base.specs.declared.refused.ConfFault.{ConfFault}
 use Rattle.pf_base.specs.declared.refused.Refused.{Refused}

@@ -2,9 +2,9 @@
 use Rattle.std.proofs.Common.{◌≡◌, ℕ, ◌+◌, if◌then◌else◌, List, [], ◌∷◌, ◌++◌, refl, ap, ◌∙◌}
 use Rattle.std.specs.Prelude.{map}
 use Rattle.std.specs.List.{fold}
-use Rattle.pf_base.specs.Lines.{lines, rest, without_return}
-use Rattle.pf_base.specs.Logical.{Physical, Grouped, alone, continued, grouped, is_ignored, numbered, starts_with_space, unless_ignored}
-use Rattle.pf_base.specs.declared.logical.Logical.{Logical}
+use Rattle.pf_base.specs.Text.Lines.{lines, rest, without_return}
+use Rattle.pf_base.specs.Text.Logical.{Physical, Grouped, alone, continued, grouped, is_ignored, numbered, starts_with_space, unless_ignored}
+use Rattle.pf_base.specs.declared.text.logical.Logical.{Logical}
 use Rattle.pf_maincf.proofs.Ends.{either_way}
 
 -- the lines of a text, and what stands behind the last line feed

@@ -2,11 +2,11 @@
 use Rattle.std.proofs.Common.{◌≡◌, [], ◌∷◌, None, Some, Ok, Err, List, ℕ, true, false, map, refl, codes}
 use Rattle.std.specs.List.{list_all}
 use Rattle.std.specs.Str.{chars, is_utf8}
-use Rattle.pf_base.specs.Lines.{lines, rest}
-use Rattle.pf_base.specs.Printing.{printed_line}
-use Rattle.pf_base.specs.declared.logical.Logical.{Logical}
+use Rattle.pf_base.specs.Text.Lines.{lines, rest}
+use Rattle.pf_base.specs.Text.Printing.{printed_line}
+use Rattle.pf_base.specs.declared.text.logical.Logical.{Logical}
 use Rattle.pf_base.specs.declared.pair.Pair.{Pair}
-use Rattle.pf_base.specs.declared.reading.ReadFault.TheVariants.{TooLarge}
+use Rattle.pf_base.specs.declared.outside.reading.ReadFault.TheVariants.{TooLarge}
 use Rattle.pf_base.specs.declared.refused.Cause.TheVariants.{C1, C2, C3, C10, C15}
 use Rattle.pf_maincf.specs.Edit.{AreSets, Line, blocks_from, differ, edited, edited_by, is_ended, is_writable, lines_in, placed, set_line}
 use Rattle.pf_maincf.specs.File.{bytes_in, conf_name, failed_line, text_read}

@@ -8,9 +8,9 @@ use Rattle.std.proofs.lemmas.Bool.{leb-true, lt-ltb, ne_eqb}
 use Rattle.std.proofs.lemmas.List.{get_or-append_right, reverse-append}
 use Rattle.std.proofs.lemmas.List.Folds.{list_any-append}
 use Rattle.std.proofs.lemmas.Slice.Eq.{bytes_eq-Decides}
-use Rattle.pf_base.specs.Lines.{without_return}
-use Rattle.pf_base.specs.Logical.{is_ignored, starts_with_space}
-use Rattle.pf_base.specs.Space.{is_space, trimmed}
+use Rattle.pf_base.specs.Text.Lines.{without_return}
+use Rattle.pf_base.specs.Text.Logical.{is_ignored, starts_with_space}
+use Rattle.pf_base.specs.Text.Space.{is_space, trimmed}
 use Rattle.pf_maincf.specs.Edit.{is_writable}
 use Rattle.pf_maincf.specs.Settings.{is_name, is_name_byte, setting_of}
 use Rattle.pf_maincf.specs.declared.setting.Setting.{Setting}

@@ -3,11 +3,11 @@ use Rattle.std.specs.Prelude.{◌≡◌, ℕ, ◌+◌, ◌-◌, ◌==◌, ◌++�
 use Rattle.std.specs.List.{find, flat_map, fold, list_all, list_any}
 use Rattle.std.specs.Option.{option_map, option_or}
 use Rattle.std.specs.Str.{bytes_eq}
-use Rattle.pf_base.specs.Ascii as ascii
-use Rattle.pf_base.specs.Lines.{lines, rest, without_return}
-use Rattle.pf_base.specs.Logical.{is_ignored, starts_with_space}
+use Rattle.pf_base.specs.Text.Ascii as ascii
+use Rattle.pf_base.specs.Text.Lines.{lines, rest, without_return}
+use Rattle.pf_base.specs.Text.Logical.{is_ignored, starts_with_space}
 use Rattle.pf_base.specs.Results.{◌>>=◌}
-use Rattle.pf_base.specs.Space.{trimmed}
+use Rattle.pf_base.specs.Text.Space.{trimmed}
 use Rattle.pf_base.specs.declared.refused.Refused.{Refused}
 use Rattle.pf_maincf.specs.Settings.{Conf, conf_of, is_name, last_setting}
 use Rattle.pf_maincf.specs.declared.setting.Setting.{Setting}

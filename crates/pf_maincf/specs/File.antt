@@ -2,11 +2,11 @@
 -- files that failed are postgate's own.
 use Rattle.std.specs.Prelude.{◌≡◌, ℕ, ◌++◌, List, Option, None, Some, Result, Ok, Err, codes, if◌then◌else◌}
 use Rattle.std.specs.Str.{is_utf8}
-use Rattle.pf_base.specs.FileList.{file_of, whole_file}
-use Rattle.pf_base.specs.Printing.{printed_line}
-use Rattle.pf_base.specs.Told.{Tree}
+use Rattle.pf_base.specs.Outside.FileList.{file_of, whole_file}
+use Rattle.pf_base.specs.Text.Printing.{printed_line}
+use Rattle.pf_base.specs.Outside.Told.{Tree}
 use Rattle.pf_base.specs.declared.pair.Pair.{Pair}
-use Rattle.pf_base.specs.declared.reading.ReadFault.{ReadFault}
+use Rattle.pf_base.specs.declared.outside.reading.ReadFault.{ReadFault}
 use Rattle.pf_base.specs.declared.refused.Cause.{Cause}
 use Rattle.pf_base.specs.declared.refused.Cause.TheVariants.{C10, C15}
 use Rattle.pf_base.specs.declared.refused.Refused.{Refused}

@@ -3,11 +3,11 @@ use Rattle.std.specs.Prelude.{ℕ, ◌+◌, ◌==◌, ◌&&◌, ◌||◌, Bool, 
 use Rattle.std.specs.List.{find, list_all, position}
 use Rattle.std.specs.Option.{option_map, option_map_or}
 use Rattle.std.specs.Str.{bytes_eq}
-use Rattle.pf_base.specs.Ascii as ascii
-use Rattle.pf_base.specs.Logical.{Grouped, Physical, grouped, physical_lines}
+use Rattle.pf_base.specs.Text.Ascii as ascii
+use Rattle.pf_base.specs.Text.Logical.{Grouped, Physical, grouped, physical_lines}
 use Rattle.pf_base.specs.Results.{◌>>=◌}
-use Rattle.pf_base.specs.Space.{trimmed}
-use Rattle.pf_base.specs.declared.logical.Logical.{Logical}
+use Rattle.pf_base.specs.Text.Space.{trimmed}
+use Rattle.pf_base.specs.declared.text.logical.Logical.{Logical}
 use Rattle.pf_base.specs.declared.refused.Cause.{Cause}
 use Rattle.pf_base.specs.declared.refused.Cause.TheVariants.{C1, C2, C3}
 use Rattle.pf_base.specs.declared.refused.Refused.{Refused}

@@ -1,7 +1,7 @@
 //! A setting of main.cf.
 ghost use Rattle.std.specs.Prelude.{◌≡◌, ◌==◌, IfOk};
 ghost use Rattle.std.specs.List.{list_all, position};
-ghost use Rattle.pf_base.specs.Ascii as ascii;
+ghost use Rattle.pf_base.specs.Text.Ascii as ascii;
 ghost use Rattle.pf_maincf.specs.Settings as settings;
 
 use pf_base::{Bytes, Logical, NoMemory, trimmed};

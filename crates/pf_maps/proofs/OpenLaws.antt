@@ -3,14 +3,14 @@ use Rattle.std.proofs.Common.{◌≡◌, ◌≢◌, ◌++◌, ◌+◌, ◌<◌, 
 use Rattle.std.proofs.lemmas.Str.{IsUtf8-from_is_utf8, is_utf8-from_IsUtf8}
 use Rattle.std.specs.Prelude.{slice_get}
 use Rattle.std.specs.Str.{IsUtf8, is_utf8}
-use Rattle.pf_base.specs.Counts.{counted}
-use Rattle.pf_base.specs.FileList.{file_of, whole_file}
+use Rattle.pf_base.specs.Outside.Counts.{counted}
+use Rattle.pf_base.specs.Outside.FileList.{file_of, whole_file}
 use Rattle.pf_base.specs.Results.{◌>>=◌}
-use Rattle.pf_base.specs.Told.{Tree, failed_tree}
+use Rattle.pf_base.specs.Outside.Told.{Tree, failed_tree}
 use Rattle.pf_base.specs.Clauses.Unless.{Unless}
 use Rattle.pf_base.specs.declared.pair.Pair.{Pair}
-use Rattle.pf_base.specs.declared.reading.ReadFault.{ReadFault}
-use Rattle.pf_base.specs.declared.reading.ReadFault.TheVariants.{TooLarge}
+use Rattle.pf_base.specs.declared.outside.reading.ReadFault.{ReadFault}
+use Rattle.pf_base.specs.declared.outside.reading.ReadFault.TheVariants.{TooLarge}
 use Rattle.pf_base.specs.declared.refused.Cause.TheVariants.{C10, C15}
 use Rattle.pf_base.specs.declared.refused.ConfFault.{ConfFault}
 use Rattle.pf_base.specs.declared.refused.ConfFault.TheVariants as conf_fault

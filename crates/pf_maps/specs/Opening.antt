@@ -1,11 +1,11 @@
 -- How tables are opened (DATABASE_README): what their texts name, and what their files hold. The refusals and their order are postgate's own.
 use Rattle.std.specs.Prelude.{ℕ, Bool, List, [], ◌∷◌, Option, None, Some, Result, Ok, Err, if◌then◌else◌}
 use Rattle.std.specs.Str.{is_utf8}
-use Rattle.pf_base.specs.FileList.{file_of, whole_file}
+use Rattle.pf_base.specs.Outside.FileList.{file_of, whole_file}
 use Rattle.pf_base.specs.Results.{◌>>=◌}
 use Rattle.pf_base.specs.TableTexts.{TableTexts}
 use Rattle.pf_base.specs.declared.pair.Pair.{Pair}
-use Rattle.pf_base.specs.declared.reading.ReadFault.{ReadFault}
+use Rattle.pf_base.specs.declared.outside.reading.ReadFault.{ReadFault}
 use Rattle.pf_base.specs.declared.refused.Cause.TheVariants.{C10, C15}
 use Rattle.pf_base.specs.declared.refused.Refused.{Refused}
 use Rattle.pf_base.specs.declared.table_texts.TableText.{TableText}

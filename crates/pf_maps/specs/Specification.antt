@@ -4,13 +4,13 @@ use Rattle.std.specs.Prelude.{ℕ, zero, suc, ◌+◌, ◌++◌, ◌==◌, Bool,
 use Rattle.std.specs.List.{position}
 use Rattle.std.specs.Option.{option_map, is_some}
 use Rattle.std.specs.Str.{bytes_eq, is_utf8}
-use Rattle.pf_base.specs.Ascii as ascii
+use Rattle.pf_base.specs.Text.Ascii as ascii
 use Rattle.pf_base.specs.Options.{◌>>=◌}
-use Rattle.pf_base.specs.Space.{trimmed}
-use Rattle.pf_base.specs.Words.{words_of}
+use Rattle.pf_base.specs.Text.Space.{trimmed}
+use Rattle.pf_base.specs.Text.Words.{words_of}
 use Rattle.pf_base.specs.declared.refused.Cause.TheVariants.{C9}
 use Rattle.pf_base.specs.declared.refused.Refused.{Refused}
-use Rattle.pf_base.specs.declared.words.WordsFault.{WordsFault}
+use Rattle.pf_base.specs.declared.text.words.WordsFault.{WordsFault}
 use Rattle.pf_table.specs.Inline.{in_brace, inline_pairs}
 use Rattle.pf_table.specs.Text.{refused}
 use Rattle.pf_maps.specs.declared.specification.Group.{Group}

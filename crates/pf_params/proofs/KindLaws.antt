@@ -4,9 +4,9 @@ use Rattle.std.specs.Prelude.{nat_le}
 use Rattle.std.proofs.lemmas.Bool.{leb-true}
 use Rattle.std.specs.Str.Parse.{digits_value}
 use Rattle.std.specs.Option.{option_map}
-use Rattle.pf_base.specs.Names.{same_in_any_case}
-use Rattle.pf_base.specs.Words.{words_of}
-use Rattle.pf_base.specs.declared.words.WordsFault.{WordsFault}
+use Rattle.pf_base.specs.Text.Names.{same_in_any_case}
+use Rattle.pf_base.specs.Text.Words.{words_of}
+use Rattle.pf_base.specs.declared.text.words.WordsFault.{WordsFault}
 use Rattle.pf_catalogue.specs.Numbers.{is_number, number_within}
 use Rattle.pf_catalogue.specs.Values.{IsNumberOf, answer_in, are_items, greatest_code, least_code, list_in, list_of, number_in, value_of}
 use Rattle.pf_catalogue.specs.declared.kind.Kind.{Kind}

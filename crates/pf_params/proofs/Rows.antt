@@ -3,7 +3,7 @@ use Rattle.std.proofs.Common.{◌≡◌, ℕ, List, [], ◌∷◌, None, Some, O
 use Rattle.std.specs.List.{fold}
 use Rattle.pf_base.specs.declared.meaning.Meaning.TheVariants.{Is, DomainOf}
 use Rattle.pf_base.specs.TableTexts.{TableTexts}
-use Rattle.pf_base.specs.Words.{words_of}
+use Rattle.pf_base.specs.Text.Words.{words_of}
 use Rattle.pf_base.specs.declared.refused.Cause.{Cause}
 use Rattle.pf_base.specs.declared.refused.Cause.TheVariants.{C4, C5, C6, C14, C16}
 use Rattle.pf_base.specs.declared.refused.Refused.{Refused}

@@ -4,11 +4,11 @@ use Rattle.std.proofs.lemmas.List.{take_min}
 use Rattle.std.proofs.lemmas.List.Concat.{flat_map-append}
 use Rattle.std.specs.List.{flat_map}
 use Rattle.std.proofs.Math.Seq.{take-append-add}
-use Rattle.pf_base.specs.Lines.{lines, rest}
+use Rattle.pf_base.specs.Text.Lines.{lines, rest}
 use Rattle.pf_base.specs.Clauses.Pieces.{onto_line, unless_line}
 use Rattle.pf_base.proofs.LineEnds.{rest_of_none}
-use Rattle.pf_base.specs.Objects.{joined}
-use Rattle.pf_base.specs.declared.texts.Texts.{Texts}
+use Rattle.pf_base.specs.Outside.Objects.{joined}
+use Rattle.pf_base.specs.declared.outside.texts.Texts.{Texts}
 use Rattle.pf_smtp.specs.Clauses.Gathering.{AnswersLine, AnswersPiece, ComesDownTo, line_given}
 use Rattle.pf_smtp.specs.Clauses.Feeding.{given, partial_after}
 use Rattle.pf_smtp.specs.Session.{before, log_text, records_text, replies_text, stays, steps, texts_of}

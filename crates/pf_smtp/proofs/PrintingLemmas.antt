@@ -2,7 +2,7 @@
 use Rattle.std.proofs.Common.{◌≡◌, ℕ, List, [], ◌∷◌, ◌++◌, refl, sym, ap, ◌∙◌}
 use Rattle.std.proofs.lemmas.List.{map-append}
 use Rattle.std.specs.List.{flat_map}
-use Rattle.pf_base.specs.Printing.{printable, printed}
+use Rattle.pf_base.specs.Text.Printing.{printable, printed}
 
 pub printed_parts : {X : Type 0} (f : X → List ℕ) (parts : List X) → flat_map (λ part. printed (f part)) parts ≡ printed (flat_map f parts)
 printed_parts f [] = refl

@@ -1,8 +1,8 @@
 -- Worked examples of the definitions, each by computation.
 use Rattle.std.proofs.Common.{◌≡◌, ◌++◌, true, false, [], ◌∷◌, map, replicate, length, None, Some, refl, codes}
 use Rattle.std.specs.Fmt.{digits}
-use Rattle.pf_base.specs.Lines.{lines, rest}
-use Rattle.pf_base.specs.Printing.{printed_line}
+use Rattle.pf_base.specs.Text.Lines.{lines, rest}
+use Rattle.pf_base.specs.Text.Printing.{printed_line}
 use Rattle.pf_eval.specs.Judge.{end_of}
 use Rattle.pf_eval.specs.declared.policy.PlainEnd.TheVariants.{Accept, Deny}
 use Rattle.pf_eval.specs.declared.policy.PlainItem.TheVariants.{PermitMynetworks, RejectUnauthDestination}

@@ -2,9 +2,9 @@
 use Rattle.std.proofs.Common.{◌≡◌, ℕ, ◌-◌, ◌<◌, ◌≤◌, true, false, List, [], ◌∷◌, ◌++◌, length, take, slice_index, refl, sym, ap, ◌∙◌, arith, append_assoc, inl, inr, if◌then◌else◌, eqb, length-take}
 use Rattle.std.proofs.lemmas.List.{take_all, length-take-le, take-take, take-append-le}
 use Rattle.std.proofs.lemmas.Bool.{lt-ltb, cases_lt}
-use Rattle.pf_base.specs.Lines.{lines, rest, without_return}
+use Rattle.pf_base.specs.Text.Lines.{lines, rest, without_return}
 use Rattle.pf_base.specs.Clauses.Pieces.{onto_line, unless_line}
-use Rattle.pf_base.specs.Counts.{counted}
+use Rattle.pf_base.specs.Outside.Counts.{counted}
 use Rattle.pf_base.proofs.LineEnds.{lines-append, rest-append, rest_of_none}
 use Rattle.pf_smtp.specs.Clauses.Feeding.{given, partial_after}
 use Rattle.pf_smtp.specs.Session.{stays, before, steps}

@@ -2,9 +2,9 @@
 use Rattle.std.proofs.Common.{◌≡◌, ℕ, true, false, List, [], ◌++◌, take, refl, sym, ap, ◌∙◌}
 use Rattle.std.proofs.lemmas.Bool.{false≢true}
 use Rattle.pf_base.proofs.ToldLemmas.{appended_more, appended_none}
-use Rattle.pf_base.specs.Lines.{lines, rest}
+use Rattle.pf_base.specs.Text.Lines.{lines, rest}
 use Rattle.pf_base.specs.Clauses.Pieces.{unless_line}
-use Rattle.pf_base.specs.Objects.{Sinks, appended, joined}
+use Rattle.pf_base.specs.Outside.Objects.{Sinks, appended, joined}
 use Rattle.pf_smtp.proofs.PieceLemmas.{given_ended, texts-before}
 use Rattle.pf_smtp.proofs.StepLemmas.{after, given-append, partial_after-append}
 use Rattle.pf_smtp.specs.Clauses.Feeding.{Took, fresh, given, partial_after, texts_given}

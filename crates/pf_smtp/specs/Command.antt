@@ -1,8 +1,8 @@
 -- The parts of a command line (RFC 5321, 2.4 and 4.1.1).
 use Rattle.std.specs.Prelude.{ℕ, ◌==◌, List, Option, Some, None, length, take, drop, codes, if◌then◌else◌}
 use Rattle.std.specs.List.{before_first, after_first}
-use Rattle.pf_base.specs.Names.{same_in_any_case}
-use Rattle.pf_base.specs.Space.{is_space, trimmed, without_leading_space}
+use Rattle.pf_base.specs.Text.Names.{same_in_any_case}
+use Rattle.pf_base.specs.Text.Space.{is_space, trimmed, without_leading_space}
 use Rattle.pf_smtp.specs.declared.command.Verb.{Verb}
 use Rattle.pf_smtp.specs.declared.command.Verb.TheVariants.{Empty, Helo, Mail, Rcpt, Quit, Other}
 

@@ -3,8 +3,8 @@ use Rattle.std.specs.Prelude.{ℕ, ◌-◌, ◌==◌, ◌&&◌, ◌||◌, Bool, 
 use Rattle.std.specs.Char.{is_ascii_alphanumeric}
 use Rattle.std.specs.List.{list_all, before_first, after_first}
 use Rattle.std.specs.Option.{option_and_then}
-use Rattle.pf_base.specs.Ascii as ascii
-use Rattle.pf_base.specs.Names.{is_host_name}
+use Rattle.pf_base.specs.Text.Ascii as ascii
+use Rattle.pf_base.specs.Text.Names.{is_host_name}
 use Rattle.pf_smtp.specs.declared.path.Address.{Address}
 
 -- a letter, a digit, a dot, a hyphen, an underscore or a plus: fewer than RFC 5321 takes

@@ -2,8 +2,8 @@
 -- its end).
 use Rattle.std.specs.Prelude.{ℕ, ◌++◌, false, List, [], ◌∷◌, None, if◌then◌else◌}
 use Rattle.std.specs.List.{flat_map}
-use Rattle.pf_base.specs.Lines.{lines}
-use Rattle.pf_base.specs.declared.texts.Texts.{Texts}
+use Rattle.pf_base.specs.Text.Lines.{lines}
+use Rattle.pf_base.specs.declared.outside.texts.Texts.{Texts}
 use Rattle.pf_smtp.specs.Step.{Step, step}
 use Rattle.pf_smtp.specs.Text.{text_of, record_text, log_line}
 use Rattle.pf_smtp.specs.declared.state.Setup.{Setup}

@@ -1,8 +1,8 @@
 -- A step of a session: a state and a line give replies, record lines, log lines and the next state (RFC 5321, 4.1).
 use Rattle.std.specs.Prelude.{ℕ, ◌==◌, true, nat_lt, List, [], ◌∷◌, Option, Some, None, is_some, is_none, length, codes, if◌then◌else◌}
-use Rattle.pf_base.specs.Counts.{counted}
-use Rattle.pf_base.specs.Lines.{without_return}
-use Rattle.pf_base.specs.Space.{trimmed}
+use Rattle.pf_base.specs.Outside.Counts.{counted}
+use Rattle.pf_base.specs.Text.Lines.{without_return}
+use Rattle.pf_base.specs.Text.Space.{trimmed}
 use Rattle.pf_eval.specs.Judge.{end_of}
 use Rattle.pf_eval.specs.declared.policy.PlainEnd.{PlainEnd}
 use Rattle.pf_eval.specs.declared.policy.PlainEnd.TheVariants.{Accept, Deny}

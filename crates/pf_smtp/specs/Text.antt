@@ -3,8 +3,8 @@
 use Rattle.std.specs.Prelude.{ℕ, ◌++◌, List, [], ◌∷◌, codes}
 use Rattle.std.specs.Fmt.{decimal}
 use Rattle.std.specs.List.{flat_map}
-use Rattle.pf_base.specs.Ascii as ascii
-use Rattle.pf_base.specs.Printing.{printed, printed_line}
+use Rattle.pf_base.specs.Text.Ascii as ascii
+use Rattle.pf_base.specs.Text.Printing.{printed, printed_line}
 use Rattle.pf_smtp.specs.declared.path.Address.{Address}
 use Rattle.pf_smtp.specs.declared.entry.Entry.{Entry}
 use Rattle.pf_smtp.specs.declared.entry.Entry.TheVariants.{Accepted, Denied}

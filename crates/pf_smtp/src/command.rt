@@ -2,7 +2,7 @@
 ghost use Rattle.std.specs.Prelude.{◌≡◌, ◌≤◌, length};
 ghost use Rattle.std.specs.List.{before_first, after_first, position_or_len};
 ghost use Rattle.std.specs.Option.{option_copied};
-ghost use Rattle.pf_base.specs.Space.{is_space};
+ghost use Rattle.pf_base.specs.Text.Space.{is_space};
 ghost use Rattle.pf_smtp.specs.Command as command;
 
 use pf_base::{is_space, same_in_any_case, trimmed, without_leading_space};

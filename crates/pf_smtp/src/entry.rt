@@ -1,6 +1,6 @@
 //! The decision log: a line for each recipient that was judged.
 ghost use Rattle.std.specs.Prelude.{◌≡◌, ◌++◌, OnOk};
-ghost use Rattle.pf_base.specs.Printing.{printed};
+ghost use Rattle.pf_base.specs.Text.Printing.{printed};
 ghost use Rattle.pf_smtp.specs.Text as spec;
 
 use crate::path::AddressRef;
@@ -95,7 +95,7 @@ impl<'a> Entry<'a> {
     }
 
     /// Adds its line, control bytes as question marks, with its line feed.
-    #[tactic(auto, unfolding(crate::specs::Text::log_line, pf_base::specs::Printing::printed_line))]
+    #[tactic(auto, unfolding(crate::specs::Text::log_line, pf_base::specs::Text::Printing::printed_line))]
     pub(crate) fn print(&self, log: &mut Bytes) -> Result<(), NoMemory>
         ensures { OnOk result (log.new ≡ log.old ++ spec.log_line self.now) }
     {

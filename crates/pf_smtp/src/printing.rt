@@ -1,7 +1,7 @@
 //! Texts that are printed in parts.
 ghost use Rattle.std.specs.Prelude.{◌≡◌, ◌++◌, OnOk};
 ghost use Rattle.std.specs.List.{flat_map};
-ghost use Rattle.pf_base.specs.Printing.{printed};
+ghost use Rattle.pf_base.specs.Text.Printing.{printed};
 
 use pf_base::{Bytes, NoMemory, add_printed};
 

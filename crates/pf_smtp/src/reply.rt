@@ -1,6 +1,6 @@
 //! The replies, an enum for each verb in the order of its checks, with their texts (RFC 5321, 4.2; RFC 3463).
 ghost use Rattle.std.specs.Prelude.{◌≡◌, ◌++◌, OnOk};
-ghost use Rattle.pf_base.specs.Printing.{printed};
+ghost use Rattle.pf_base.specs.Text.Printing.{printed};
 ghost use Rattle.pf_smtp.specs.Text as text;
 
 use crate::path::AddressRef;

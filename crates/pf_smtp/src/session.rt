@@ -1,7 +1,7 @@
 //! The session, as the layer above drives it.
 ghost use Rattle.std.specs.Prelude.{◌≡◌, [], true, false, Ok, IfErr, IfOk, OnErr, OnOk};
-ghost use Rattle.pf_base.specs.Objects.{Says, StopsBy, out_text, sinks};
-ghost use Rattle.pf_base.specs.Told.{Output};
+ghost use Rattle.pf_base.specs.Outside.Objects.{Says, StopsBy, out_text, sinks};
+ghost use Rattle.pf_base.specs.Outside.Told.{Output};
 ghost use Rattle.pf_smtp.specs.Clauses.Feeding.{Took, fresh, going_of, texts_given};
 ghost use Rattle.pf_smtp.specs.Text.{greeting_of};
 

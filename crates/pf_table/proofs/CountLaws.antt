@@ -7,9 +7,9 @@ use Rattle.std.specs.List.{find, fold}
 use Rattle.std.specs.Option.{option_map, option_or}
 use Rattle.std.specs.Prelude.{IfOk, map}
 use Rattle.std.specs.Str.{bytes_eq}
-use Rattle.pf_base.specs.Logical.{grouped, physical_lines}
+use Rattle.pf_base.specs.Text.Logical.{grouped, physical_lines}
 use Rattle.pf_base.specs.Results.{◌>>=◌}
-use Rattle.pf_base.specs.declared.logical.Logical.{Logical}
+use Rattle.pf_base.specs.declared.text.logical.Logical.{Logical}
 use Rattle.pf_base.specs.declared.pair.Pair.{Pair}
 use Rattle.pf_base.specs.Clauses.Unless.{Unless}
 use Rattle.pf_base.specs.declared.refused.ConfFault.{ConfFault}

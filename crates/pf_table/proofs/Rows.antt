@@ -1,7 +1,7 @@
 -- Worked examples of the definitions, each by computation.
 use Rattle.std.proofs.Common.{◌≡◌, ℕ, true, false, List, [], ◌∷◌, Ok, Err, refl, codes}
 use Rattle.pf_base.specs.declared.pair.Pair.{Pair}
-use Rattle.pf_base.specs.Words.{words_of}
+use Rattle.pf_base.specs.Text.Words.{words_of}
 use Rattle.pf_base.specs.declared.refused.Cause.TheVariants.{C1, C11}
 use Rattle.pf_base.specs.declared.table_texts.TableId.{TableId}
 use Rattle.pf_asks.specs.Heard.{marked, nothing}

@@ -2,10 +2,10 @@
 use Rattle.std.proofs.Common.{◌≡◌, ◌<◌, ◌+◌, ℕ, Bool, List, [], ◌∷◌, Result, Ok, Err, length, drop, get_or, sym, ap, ◌∙◌}
 use Rattle.std.proofs.lemmas.List.{at_drop_more}
 use Rattle.std.specs.List.{fold}
-use Rattle.pf_base.specs.Logical.{Physical, grouped, logical_lines_of, physical_lines, unless_leading}
+use Rattle.pf_base.specs.Text.Logical.{Physical, grouped, logical_lines_of, physical_lines, unless_leading}
 use Rattle.pf_base.specs.Results.{◌>>=◌}
-use Rattle.pf_base.specs.declared.logical.Logical.{Logical}
-use Rattle.pf_base.specs.declared.logical.TextFault.TheVariants.{Continuation}
+use Rattle.pf_base.specs.declared.text.logical.Logical.{Logical}
+use Rattle.pf_base.specs.declared.text.logical.TextFault.TheVariants.{Continuation}
 use Rattle.pf_base.specs.declared.refused.Cause.TheVariants.{C1}
 use Rattle.pf_base.specs.declared.refused.ConfFault.{ConfFault}
 use Rattle.pf_base.specs.declared.refused.Refused.{Refused}

@@ -2,15 +2,15 @@
 -- keys the first counts, is postgate's own.
 use Rattle.std.specs.Prelude.{◌≡◌, ℕ, ◌+◌, ◌++◌, ◌==◌, Bool, nat_lt, List, [], ◌∷◌, Option, None, Some, Result, Ok, Err, codes, length, take, drop, if◌then◌else◌}
 use Rattle.std.specs.List.{list_any, position}
-use Rattle.pf_base.specs.Ascii as ascii
-use Rattle.pf_base.specs.Braces.{partner}
+use Rattle.pf_base.specs.Text.Ascii as ascii
+use Rattle.pf_base.specs.Text.Braces.{partner}
 use Rattle.pf_base.specs.Options.{◌>>=◌}
-use Rattle.pf_base.specs.Space.{is_space, trimmed}
-use Rattle.pf_base.specs.Words.{words_of}
+use Rattle.pf_base.specs.Text.Space.{is_space, trimmed}
+use Rattle.pf_base.specs.Text.Words.{words_of}
 use Rattle.pf_base.specs.declared.pair.Pair.{Pair}
 use Rattle.pf_base.specs.declared.refused.Cause.TheVariants.{C9}
 use Rattle.pf_base.specs.declared.refused.Refused.{Refused}
-use Rattle.pf_base.specs.declared.words.WordsFault.{WordsFault}
+use Rattle.pf_base.specs.declared.text.words.WordsFault.{WordsFault}
 use Rattle.pf_table.specs.Pairs.{pairs_of}
 use Rattle.pf_table.specs.Tables.{Keyed, found_in, kept_key}
 use Rattle.pf_table.specs.declared.pairs.Repeats.TheVariants.{First}

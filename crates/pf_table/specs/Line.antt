@@ -2,8 +2,8 @@
 use Rattle.std.specs.Prelude.{ℕ, ◌+◌, ◌++◌, ◌==◌, ◌&&◌, Bool, true, false, not, nat_lt, List, [], ◌∷◌, Option, None, Some, Result, Ok, Err, codes, length, take, drop, if◌then◌else◌}
 use Rattle.std.specs.List.{position_or_len}
 use Rattle.std.specs.Option.{option_map}
-use Rattle.pf_base.specs.Ascii as ascii
-use Rattle.pf_base.specs.Space.{is_space, trimmed}
+use Rattle.pf_base.specs.Text.Ascii as ascii
+use Rattle.pf_base.specs.Text.Space.{is_space, trimmed}
 use Rattle.pf_base.specs.declared.pair.Pair.{Pair}
 use Rattle.pf_table.specs.Tables.{kept_key}
 use Rattle.pf_table.specs.declared.line.Reason.{Reason}

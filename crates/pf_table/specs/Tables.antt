@@ -2,7 +2,7 @@
 use Rattle.std.specs.Prelude.{ℕ, Bool, true, List, [], ◌∷◌, Option, None, Some, map, if◌then◌else◌}
 use Rattle.std.specs.List.{find}
 use Rattle.std.specs.Str.{bytes_eq}
-use Rattle.pf_base.specs.Names.{folded}
+use Rattle.pf_base.specs.Text.Names.{folded}
 use Rattle.pf_base.specs.declared.pair.Pair.{Pair}
 use Rattle.pf_asks.specs.declared.lookup.Found.{Found}
 use Rattle.pf_asks.specs.declared.lookup.Found.TheVariants.{Value, Absent}

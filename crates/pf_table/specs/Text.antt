@@ -1,9 +1,9 @@
 -- Text tables (DATABASE_README, texthash). The refusals are postgate's own.
 use Rattle.std.specs.Prelude.{◌≡◌, ℕ, ◌++◌, Bool, List, [], ◌∷◌, Result, Ok, Err, map, if◌then◌else◌}
 use Rattle.std.specs.List.{fold}
-use Rattle.pf_base.specs.Logical.{Grouped, Physical, grouped, physical_lines}
+use Rattle.pf_base.specs.Text.Logical.{Grouped, Physical, grouped, physical_lines}
 use Rattle.pf_base.specs.Results.{◌>>=◌}
-use Rattle.pf_base.specs.declared.logical.Logical.{Logical}
+use Rattle.pf_base.specs.declared.text.logical.Logical.{Logical}
 use Rattle.pf_base.specs.declared.pair.Pair.{Pair}
 use Rattle.pf_base.specs.declared.refused.Cause.{Cause}
 use Rattle.pf_base.specs.declared.refused.Cause.TheVariants.{C1, C11}

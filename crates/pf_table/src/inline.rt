@@ -2,8 +2,8 @@
 ghost use Rattle.std.specs.Prelude.{◌≡◌, ◌≢◌, ◌==◌, ◌++◌, IfOk};
 ghost use Rattle.std.specs.List.{list_any, position};
 ghost use Rattle.std.specs.Option.{option_copied};
-ghost use Rattle.pf_base.specs.Ascii as ascii;
-ghost use Rattle.pf_base.specs.Space as space;
+ghost use Rattle.pf_base.specs.Text.Ascii as ascii;
+ghost use Rattle.pf_base.specs.Text.Space as space;
 ghost use Rattle.pf_base.specs.Clauses.Unless.{Unless};
 ghost use Rattle.pf_table.specs.Clauses.Faults.{as_fault};
 ghost use Rattle.pf_table.specs.Inline as spec;

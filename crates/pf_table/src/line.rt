@@ -2,8 +2,8 @@
 ghost use Rattle.std.specs.Prelude.{◌≡◌, ◌==◌, ◌&&◌, ◌<◌, ◌≤◌, false, length, not, IfOk, IfSome};
 ghost use Rattle.std.specs.List.{position_or_len};
 ghost use Rattle.std.specs.Option.{option_copied};
-ghost use Rattle.pf_base.specs.Ascii as ascii;
-ghost use Rattle.pf_base.specs.Space as space;
+ghost use Rattle.pf_base.specs.Text.Ascii as ascii;
+ghost use Rattle.pf_base.specs.Text.Space as space;
 ghost use Rattle.pf_table.specs.Line as spec;
 
 use crate::pairs::kept_key;

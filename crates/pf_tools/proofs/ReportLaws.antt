@@ -2,9 +2,9 @@
 use Rattle.std.proofs.Common.{◌≡◌, ℕ, List, Some, Result, Ok, Err, inl, inr, refl, ap, ◌∙◌}
 use Rattle.std.specs.Option.{option_map}
 use Rattle.std.specs.Prelude.{◌⊎◌, OnErr}
-use Rattle.pf_base.specs.Counts.{counted}
-use Rattle.pf_base.specs.FileList.{with_file}
-use Rattle.pf_base.specs.Told.{Tree, failed_tree, replaced}
+use Rattle.pf_base.specs.Outside.Counts.{counted}
+use Rattle.pf_base.specs.Outside.FileList.{with_file}
+use Rattle.pf_base.specs.Outside.Told.{Tree, failed_tree, replaced}
 use Rattle.pf_base.specs.declared.pair.Pair.{Pair}
 use Rattle.pf_base.specs.declared.refused.Refused.{Refused}
 use Rattle.pf_maincf.specs.Clauses.Faults.{Answers}

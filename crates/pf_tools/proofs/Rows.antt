@@ -1,10 +1,10 @@
 -- Worked examples of the definitions, each by computation.
 use Rattle.std.proofs.Common.{◌≡◌, ℕ, true, false, List, [], ◌∷◌, map, length, None, Some, Ok, Err, refl, codes}
 use Rattle.std.specs.Fmt.{digits}
-use Rattle.pf_base.specs.Lines.{lines, rest}
-use Rattle.pf_base.specs.Printing.{printed_line}
+use Rattle.pf_base.specs.Text.Lines.{lines, rest}
+use Rattle.pf_base.specs.Text.Printing.{printed_line}
 use Rattle.pf_base.specs.Refusal.{cause_text, refusal_line}
-use Rattle.pf_base.specs.Words.{words_of}
+use Rattle.pf_base.specs.Text.Words.{words_of}
 use Rattle.pf_base.specs.declared.refused.Cause.TheVariants.{C2, C5, C10}
 use Rattle.pf_catalogue.specs.Catalogue.{catalogue}
 use Rattle.pf_maincf.specs.Edit.{edited}

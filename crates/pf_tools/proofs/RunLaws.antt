@@ -4,12 +4,12 @@ use Rattle.std.specs.Prelude.{IsOk, ⊤}
 use Rattle.std.proofs.lemmas.Bool.{false≢true}
 use Rattle.pf_base.proofs.StatusLemmas.{said_causes, starved_causes}
 use Rattle.pf_base.proofs.ToldLemmas.{stops_first}
-use Rattle.pf_base.specs.Objects.{Says, objects, sinks, status_of}
-use Rattle.pf_base.specs.Statuses.{HasCauses, counts_of, is_among}
-use Rattle.pf_base.specs.Told.{Input, Output, Tree}
-use Rattle.pf_base.specs.declared.status.TheConstants.{NO_MEMORY}
-use Rattle.pf_base.specs.declared.texts.SinkFault.{SinkFault}
-use Rattle.pf_base.specs.declared.texts.SinkFault.TheVariants as fault
+use Rattle.pf_base.specs.Outside.Objects.{Says, objects, sinks, status_of}
+use Rattle.pf_base.specs.Outside.Statuses.{HasCauses, counts_of, is_among}
+use Rattle.pf_base.specs.Outside.Told.{Input, Output, Tree}
+use Rattle.pf_base.specs.declared.outside.status.TheConstants.{NO_MEMORY}
+use Rattle.pf_base.specs.declared.outside.texts.SinkFault.{SinkFault}
+use Rattle.pf_base.specs.declared.outside.texts.SinkFault.TheVariants as fault
 use Rattle.pf_maincf.specs.File.{conf_name}
 use Rattle.pf_tools.specs.Course.{Course, Unfinished, course_status, is_done, log_of, output_of, said_in, texts_of}
 use Rattle.pf_tools.specs.Course.{Course as course}

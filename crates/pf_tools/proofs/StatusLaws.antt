@@ -2,14 +2,14 @@
 use Rattle.std.proofs.Common.{◌≡◌, ℕ, true, List, [], ◌∷◌, Option, Some, Result, Ok, Err, inl, inr, refl}
 use Rattle.std.specs.Prelude.{⊤}
 use Rattle.pf_base.proofs.StatusLemmas.{FilesCause, none_stopped, spoken}
-use Rattle.pf_base.specs.Objects.{Says, Sinks, status_of}
-use Rattle.pf_base.specs.Statuses.{Counts, HasCauses, NoneRose, is_among}
-use Rattle.pf_base.specs.Told.{Tree}
+use Rattle.pf_base.specs.Outside.Objects.{Says, Sinks, status_of}
+use Rattle.pf_base.specs.Outside.Statuses.{Counts, HasCauses, NoneRose, is_among}
+use Rattle.pf_base.specs.Outside.Told.{Tree}
 use Rattle.pf_base.specs.declared.pair.Pair.{Pair}
 use Rattle.pf_base.specs.declared.refused.Refused.{Refused}
-use Rattle.pf_base.specs.declared.status.TheConstants.{DONE, FILES_FAILED, NO_MEMORY, WARNED}
-use Rattle.pf_base.specs.declared.texts.SinkFault.{SinkFault}
-use Rattle.pf_base.specs.declared.texts.SinkFault.TheVariants as fault
+use Rattle.pf_base.specs.declared.outside.status.TheConstants.{DONE, FILES_FAILED, NO_MEMORY, WARNED}
+use Rattle.pf_base.specs.declared.outside.texts.SinkFault.{SinkFault}
+use Rattle.pf_base.specs.declared.outside.texts.SinkFault.TheVariants as fault
 use Rattle.pf_tools.specs.Course.{Course, IsCourse, Leaves, course_status, printed_status, said_in, texts_of}
 use Rattle.pf_tools.specs.Course.{Course as course}
 use Rattle.pf_tools.specs.Run.{statuses, statuses_by}

@@ -1,11 +1,11 @@
 -- The course that a run of postconf can take, what is written in it, and what it leaves of the files (postconf(1)). The statuses are postgate's own.
 use Rattle.std.specs.Prelude.{◌≡◌, ◌⊎◌, ℕ, Bool, true, false, List, [], ◌∷◌, Option, Some, Result, Ok, Err, codes}
 use Rattle.pf_base.specs.Refusal.{refusal_line}
-use Rattle.pf_base.specs.Told.{Tree, failed_tree, replaced}
+use Rattle.pf_base.specs.Outside.Told.{Tree, failed_tree, replaced}
 use Rattle.pf_base.specs.declared.pair.Pair.{Pair}
 use Rattle.pf_base.specs.declared.refused.Refused.{Refused}
-use Rattle.pf_base.specs.declared.status.TheConstants.{DONE, FILES_FAILED, NO_MEMORY, REFUSED, WARNED}
-use Rattle.pf_base.specs.declared.texts.Texts.{Texts}
+use Rattle.pf_base.specs.declared.outside.status.TheConstants.{DONE, FILES_FAILED, NO_MEMORY, REFUSED, WARNED}
+use Rattle.pf_base.specs.declared.outside.texts.Texts.{Texts}
 use Rattle.pf_maincf.specs.File.{Kept, bytes_in, conf_name, failed_line}
 use Rattle.pf_tools.specs.Said.{file_said}
 use Rattle.pf_tools.specs.declared.said.Said.{Said}

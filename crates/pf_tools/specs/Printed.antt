@@ -1,8 +1,8 @@
 -- What postconf prints and what it warns of (postconf(1)). How a warning is printed is postgate's own.
 use Rattle.std.specs.Prelude.{ℕ, ◌++◌, List, [], ◌∷◌, Result, Ok, codes, if◌then◌else◌}
 use Rattle.std.specs.List.{flat_map}
-use Rattle.pf_base.specs.Ascii as ascii
-use Rattle.pf_base.specs.Printing.{printed_line}
+use Rattle.pf_base.specs.Text.Ascii as ascii
+use Rattle.pf_base.specs.Text.Printing.{printed_line}
 use Rattle.pf_base.specs.Results.{◌>>=◌}
 use Rattle.pf_base.specs.declared.refused.Refused.{Refused}
 use Rattle.pf_maincf.specs.Settings.{Conf}

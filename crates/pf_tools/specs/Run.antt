@@ -1,11 +1,11 @@
 -- What a run of postconf leaves. The statuses are postgate's own.
 use Rattle.std.specs.Prelude.{◌≡◌, ℕ, List, [], ◌∷◌, Some, true, false, Result, Ok, Err, IsOk, ⊤}
-use Rattle.pf_base.specs.Objects.{Objects, Says, status_of}
-use Rattle.pf_base.specs.Statuses.{HasCauses, NoneRose, counts_of, is_among}
+use Rattle.pf_base.specs.Outside.Objects.{Objects, Says, status_of}
+use Rattle.pf_base.specs.Outside.Statuses.{HasCauses, NoneRose, counts_of, is_among}
 use Rattle.pf_base.specs.declared.pair.Pair.{Pair}
 use Rattle.pf_base.specs.declared.refused.Refused.{Refused}
-use Rattle.pf_base.specs.declared.status.TheConstants.{DONE, FILES_FAILED, LOG_FAILED, NO_MEMORY, OUT_FAILED, REFUSED, WARNED}
-use Rattle.pf_base.specs.declared.texts.SinkFault.{SinkFault}
+use Rattle.pf_base.specs.declared.outside.status.TheConstants.{DONE, FILES_FAILED, LOG_FAILED, NO_MEMORY, OUT_FAILED, REFUSED, WARNED}
+use Rattle.pf_base.specs.declared.outside.texts.SinkFault.{SinkFault}
 use Rattle.pf_maincf.specs.File.{conf_name}
 use Rattle.pf_tools.specs.Course.{Courses, course_status, is_done, output_of, printed_status, said_in, texts_of}
 use Rattle.pf_tools.specs.declared.said.Said.{Said}

@@ -1,7 +1,7 @@
 //! What is said of main.cf as a file.
 ghost use Rattle.std.specs.Prelude.{◌≡◌, ◌≢◌, List as Seq, Some, Err, true, IfOk};
 ghost use Rattle.std.specs.Str.{IsUtf8};
-ghost use Rattle.pf_base.specs.Told.{failed_tree};
+ghost use Rattle.pf_base.specs.Outside.Told.{failed_tree};
 ghost use Rattle.pf_base.specs.declared.pair.Pair.{Pair};
 ghost use Rattle.pf_maincf.specs.Clauses.Faults.{Answers};
 ghost use Rattle.pf_maincf.specs.File.{Kept, bytes_in};

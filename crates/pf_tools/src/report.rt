@@ -1,9 +1,9 @@
 //! What a run does to the files, and what it is to write.
 ghost use Rattle.std.specs.Prelude.{◌≡◌, ◌⊎◌, [], false, true, IfOk, OnErr};
 ghost use Rattle.std.specs.Str.{IsUtf8};
-ghost use Rattle.pf_base.specs.Objects.{log_text};
+ghost use Rattle.pf_base.specs.Outside.Objects.{log_text};
 ghost use Rattle.pf_base.specs.Refusal.{refusal_line};
-ghost use Rattle.pf_base.specs.declared.status.TheConstants.{FILES_FAILED, REFUSED};
+ghost use Rattle.pf_base.specs.declared.outside.status.TheConstants.{FILES_FAILED, REFUSED};
 ghost use Rattle.pf_maincf.specs.File.{failed_line};
 ghost use Rattle.pf_tools.specs.Course as spec;
 ghost use Rattle.pf_tools.specs.Course.{Course as course};

@@ -1,7 +1,7 @@
 //! What is written at the end of a run.
 ghost use Rattle.std.specs.Prelude.{◌≡◌, [], IsOk};
-ghost use Rattle.pf_base.specs.Objects.{Says, sinks};
-ghost use Rattle.pf_base.specs.Told.{Output};
+ghost use Rattle.pf_base.specs.Outside.Objects.{Says, sinks};
+ghost use Rattle.pf_base.specs.Outside.Told.{Output};
 
 use pf_base::{OuterFault, Sink, SinkFault, Texts, write_some};
 

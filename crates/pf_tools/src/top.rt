@@ -1,7 +1,7 @@
 //! The top call.
 ghost use Rattle.std.specs.Prelude.{◌≡◌, true};
-ghost use Rattle.pf_base.specs.Objects.{objects};
-ghost use Rattle.pf_base.specs.Told.{Input, Output};
+ghost use Rattle.pf_base.specs.Outside.Objects.{objects};
+ghost use Rattle.pf_base.specs.Outside.Told.{Input, Output};
 ghost use Rattle.pf_tools.specs.Run.{PostconfRun};
 ghost use Rattle.pf_words.specs.Postconf.{sets_parameters};
 

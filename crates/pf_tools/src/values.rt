@@ -2,7 +2,7 @@
 ghost use Rattle.std.specs.Prelude.{◌≡◌, ◌==◌, ◌≢◌, ◌∷◌, codes, IfOk};
 ghost use Rattle.std.specs.List.{position};
 ghost use Rattle.std.specs.Option.{option_copied, option_map_or};
-ghost use Rattle.pf_base.specs.Ascii as ascii;
+ghost use Rattle.pf_base.specs.Text.Ascii as ascii;
 ghost use Rattle.pf_base.specs.Clauses.Unless.{Unless};
 ghost use Rattle.pf_base.specs.declared.meaning.Meaning.TheVariants.{Is, DomainOf};
 ghost use Rattle.pf_maincf.specs.Clauses.Faults.{as_fault};

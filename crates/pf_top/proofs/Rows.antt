@@ -1,14 +1,14 @@
 -- Worked examples of the definitions, each by computation.
 use Rattle.std.proofs.Common.{◌≡◌, ℕ, ◌++◌, true, false, List, [], ◌∷◌, map, Option, None, Some, Result, Ok, Err, option_map, refl, codes}
 use Rattle.std.specs.Fmt.{digits}
-use Rattle.pf_base.specs.Lines.{lines}
-use Rattle.pf_base.specs.Printing.{printed_line}
+use Rattle.pf_base.specs.Text.Lines.{lines}
+use Rattle.pf_base.specs.Text.Printing.{printed_line}
 use Rattle.pf_base.specs.Refusal.{cause_text, refusal_line}
-use Rattle.pf_base.specs.Words.{words_of}
+use Rattle.pf_base.specs.Text.Words.{words_of}
 use Rattle.pf_base.specs.declared.refused.Cause.TheVariants.{C2, C5, C10, C14}
 use Rattle.pf_base.specs.declared.refused.Refused.{Refused}
-use Rattle.pf_base.specs.declared.texts.SinkFault.TheVariants as sink
-use Rattle.pf_base.specs.declared.texts.Texts.{Texts}
+use Rattle.pf_base.specs.declared.outside.texts.SinkFault.TheVariants as sink
+use Rattle.pf_base.specs.declared.outside.texts.Texts.{Texts}
 use Rattle.pf_catalogue.specs.Catalogue.{catalogue}
 use Rattle.pf_catalogue.specs.declared.value.Value.TheVariants.{Text, Items}
 use Rattle.pf_eval.specs.Judge.{end_of}

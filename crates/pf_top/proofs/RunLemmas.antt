@@ -1,9 +1,9 @@
 -- What a run leaves, put together.
 use Rattle.std.proofs.Common.{◌≡◌, ℕ, Option, None, Some, Err, refl, sym, ap, subst, ◌∙◌}
 use Rattle.pf_base.proofs.ToldLemmas.{stops_first}
-use Rattle.pf_base.specs.Objects.{Objects, log_text}
-use Rattle.pf_base.specs.declared.status.TheConstants.{NO_MEMORY}
-use Rattle.pf_base.specs.declared.texts.SinkFault.TheVariants.{NoMemory}
+use Rattle.pf_base.specs.Outside.Objects.{Objects, log_text}
+use Rattle.pf_base.specs.declared.outside.status.TheConstants.{NO_MEMORY}
+use Rattle.pf_base.specs.declared.outside.texts.SinkFault.TheVariants.{NoMemory}
 use Rattle.pf_tools.proofs.ReportLaws.{starved}
 use Rattle.pf_tools.proofs.RunLaws.{runs_short}
 use Rattle.pf_tools.specs.Run.{PostconfRun}

@@ -3,15 +3,15 @@ use Rattle.std.proofs.Common.{◌≡◌, ℕ, true, List, [], ◌∷◌, ◌++�
 use Rattle.std.specs.Prelude.{⊤}
 use Rattle.pf_base.proofs.StatusLemmas.{counts_same, kept_causes, none_failed, none_stopped, said_causes, said_record, starved_causes, stops_causes, stops_record}
 use Rattle.pf_base.proofs.ToldLemmas.{wrote_none}
-use Rattle.pf_base.specs.Counts.{counted}
-use Rattle.pf_base.specs.Objects.{Objects, Streams, log_text, out_text, sink_status, status_of}
-use Rattle.pf_base.specs.Told.{wrote}
-use Rattle.pf_base.specs.Statuses.{HasCauses, NoneRose, counts_of, is_among}
+use Rattle.pf_base.specs.Outside.Counts.{counted}
+use Rattle.pf_base.specs.Outside.Objects.{Objects, Streams, log_text, out_text, sink_status, status_of}
+use Rattle.pf_base.specs.Outside.Told.{wrote}
+use Rattle.pf_base.specs.Outside.Statuses.{HasCauses, NoneRose, counts_of, is_among}
 use Rattle.pf_base.specs.declared.pair.Pair.{Pair}
 use Rattle.pf_base.specs.declared.refused.Refused.{Refused}
-use Rattle.pf_base.specs.declared.status.TheConstants.{AT_BUDGET, DONE, FILES_FAILED, LOG_FAILED, NO_MEMORY, REFUSED, USAGE}
-use Rattle.pf_base.specs.declared.texts.SinkFault.{SinkFault}
-use Rattle.pf_base.specs.declared.texts.SinkFault.TheVariants as sink
+use Rattle.pf_base.specs.declared.outside.status.TheConstants.{AT_BUDGET, DONE, FILES_FAILED, LOG_FAILED, NO_MEMORY, REFUSED, USAGE}
+use Rattle.pf_base.specs.declared.outside.texts.SinkFault.{SinkFault}
+use Rattle.pf_base.specs.declared.outside.texts.SinkFault.TheVariants as sink
 use Rattle.pf_smtp.proofs.PieceLemmas.{no_records}
 use Rattle.pf_smtp.specs.Session.{session}
 use Rattle.pf_smtp.specs.Text.{greeting_of}

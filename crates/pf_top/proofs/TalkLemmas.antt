@@ -3,11 +3,11 @@ use Rattle.std.proofs.Common.{◌≡◌, ℕ, ◌+◌, ◌<◌, ◌≤◌, Bool,
 use Rattle.std.proofs.Math.Path.{fun_ext}
 use Rattle.std.specs.Io.KnownBytes.{IsAtEnd}
 use Rattle.pf_base.proofs.ToldLemmas.{appended_more, takes_more, takes_none}
-use Rattle.pf_base.specs.Lines.{lines}
-use Rattle.pf_base.specs.Objects.{Streams, appended, joined, out_text}
-use Rattle.pf_base.specs.Told.{Takes, failed_input, found_end}
-use Rattle.pf_base.specs.declared.texts.SinkFault.{SinkFault}
-use Rattle.pf_base.specs.declared.texts.Texts.{Texts}
+use Rattle.pf_base.specs.Text.Lines.{lines}
+use Rattle.pf_base.specs.Outside.Objects.{Streams, appended, joined, out_text}
+use Rattle.pf_base.specs.Outside.Told.{Takes, failed_input, found_end}
+use Rattle.pf_base.specs.declared.outside.texts.SinkFault.{SinkFault}
+use Rattle.pf_base.specs.declared.outside.texts.Texts.{Texts}
 use Rattle.pf_smtp.proofs.PieceLemmas.{joined_assoc}
 use Rattle.pf_smtp.proofs.StepLemmas.{onto_line_nothing}
 use Rattle.pf_smtp.proofs.TookLemmas.{texts_more, took_more, took_none}

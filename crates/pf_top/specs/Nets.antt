@@ -1,7 +1,7 @@
 -- Networks as they are written (postconf(5), mynetworks; cidr_table(5)). That prefixes have no leading zeros is postgate's own.
 use Rattle.std.specs.Prelude.{ℕ, ◌-◌, ◌%◌, ◌^◌, ◌==◌, ◌&&◌, nat_le, List, Option, Some, None, if◌then◌else◌}
 use Rattle.std.specs.List.{after_first, before_first}
-use Rattle.pf_base.specs.Ascii as ascii
+use Rattle.pf_base.specs.Text.Ascii as ascii
 use Rattle.pf_base.specs.Options.{◌>>=◌}
 use Rattle.pf_eval.specs.Nets.{Net}
 use Rattle.pf_words.specs.Address.{ipv4_of, octet_of}

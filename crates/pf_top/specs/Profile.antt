@@ -3,7 +3,7 @@
 use Rattle.std.specs.Prelude.{ℕ, ◌&&◌, ◌||◌, Bool, not, List, [], ◌∷◌, Option, None, Some, Result, Ok, Err, is_some, codes, if◌then◌else◌}
 use Rattle.std.specs.Option.{option_map, option_or}
 use Rattle.std.specs.Str.{bytes_eq}
-use Rattle.pf_base.specs.Names.{is_host_name}
+use Rattle.pf_base.specs.Text.Names.{is_host_name}
 use Rattle.pf_base.specs.declared.refused.Cause.{Cause}
 use Rattle.pf_base.specs.declared.refused.Cause.TheVariants.{C14}
 use Rattle.pf_base.specs.declared.refused.Refused.{Refused}

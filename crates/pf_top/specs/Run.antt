@@ -1,9 +1,9 @@
 -- What a run leaves, by the command that its words name. The statuses are postgate's own, as is the line that says how the program is used.
 use Rattle.std.specs.Prelude.{◌≡◌, ℕ, true, List, [], ◌∷◌, Option, None, Some, Result, ⊤, codes}
-use Rattle.pf_base.specs.Objects.{Objects, status_of}
-use Rattle.pf_base.specs.Statuses.{HasCauses, counts_of, is_among}
-use Rattle.pf_base.specs.declared.status.TheConstants.{LOG_FAILED, NO_MEMORY, USAGE}
-use Rattle.pf_base.specs.declared.texts.SinkFault.{SinkFault}
+use Rattle.pf_base.specs.Outside.Objects.{Objects, status_of}
+use Rattle.pf_base.specs.Outside.Statuses.{HasCauses, counts_of, is_among}
+use Rattle.pf_base.specs.declared.outside.status.TheConstants.{LOG_FAILED, NO_MEMORY, USAGE}
+use Rattle.pf_base.specs.declared.outside.texts.SinkFault.{SinkFault}
 use Rattle.pf_tools.specs.Run.{PostconfRun}
 use Rattle.pf_top.specs.Smtpd.{SaysLine, SmtpdRun}
 use Rattle.pf_words.specs.declared.words.Words.{Words}

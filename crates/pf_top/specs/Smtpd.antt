@@ -1,13 +1,13 @@
 -- What a run of smtpd leaves. The statuses are postgate's own, as are the lines that it says of itself.
 use Rattle.std.specs.Prelude.{◌≡◌, ℕ, true, List, [], ◌∷◌, Some, Result, Ok, Err, ⊤, codes}
-use Rattle.pf_base.specs.Objects.{Objects, Says, Streams, log_text, sink_status, status_of}
+use Rattle.pf_base.specs.Outside.Objects.{Objects, Says, Streams, log_text, sink_status, status_of}
 use Rattle.pf_base.specs.Refusal.{refusal_line}
-use Rattle.pf_base.specs.Statuses.{HasCauses, NoneRose, counts_of, is_among}
-use Rattle.pf_base.specs.Told.{failed_tree}
+use Rattle.pf_base.specs.Outside.Statuses.{HasCauses, NoneRose, counts_of, is_among}
+use Rattle.pf_base.specs.Outside.Told.{failed_tree}
 use Rattle.pf_base.specs.declared.pair.Pair.{Pair}
 use Rattle.pf_base.specs.declared.refused.Refused.{Refused}
-use Rattle.pf_base.specs.declared.status.TheConstants.{AT_BUDGET, DONE, FILES_FAILED, INPUT_FAILED, LOG_FAILED, MAIL_FAILED, NO_MEMORY, OUT_FAILED, REFUSED}
-use Rattle.pf_base.specs.declared.texts.SinkFault.{SinkFault}
+use Rattle.pf_base.specs.declared.outside.status.TheConstants.{AT_BUDGET, DONE, FILES_FAILED, INPUT_FAILED, LOG_FAILED, MAIL_FAILED, NO_MEMORY, OUT_FAILED, REFUSED}
+use Rattle.pf_base.specs.declared.outside.texts.SinkFault.{SinkFault}
 use Rattle.pf_maincf.specs.File.{Kept, bytes_in, conf_name, failed_line}
 use Rattle.pf_top.specs.Opening.{setup_of}
 use Rattle.pf_top.specs.Refusals.{file_opened}

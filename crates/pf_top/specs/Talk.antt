@@ -2,10 +2,10 @@
 -- postgate's own.
 use Rattle.std.specs.Prelude.{◌≡◌, ◌⊎◌, ℕ, ◌+◌, ◌<◌, ◌≤◌, ◌++◌, Bool, true, false, List, Result, Ok, Err, length}
 use Rattle.std.specs.Io.KnownBytes.{IsAtEnd}
-use Rattle.pf_base.specs.Objects.{Streams, StopsBy, appended, joined, out_text}
-use Rattle.pf_base.specs.Told.{Takes, failed_input, found_end}
-use Rattle.pf_base.specs.declared.texts.SinkFault.{SinkFault}
-use Rattle.pf_base.specs.declared.texts.Texts.{Texts}
+use Rattle.pf_base.specs.Outside.Objects.{Streams, StopsBy, appended, joined, out_text}
+use Rattle.pf_base.specs.Outside.Told.{Takes, failed_input, found_end}
+use Rattle.pf_base.specs.declared.outside.texts.SinkFault.{SinkFault}
+use Rattle.pf_base.specs.declared.outside.texts.Texts.{Texts}
 use Rattle.pf_smtp.specs.Session.{session, texts_of}
 use Rattle.pf_smtp.specs.Text.{greeting_of}
 use Rattle.pf_smtp.specs.declared.state.Setup.{Setup}

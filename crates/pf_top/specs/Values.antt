@@ -2,7 +2,7 @@
 use Rattle.std.specs.Prelude.{ℕ, Bool, true, false, nat_lt, List, Option, Some, None, length, codes, if◌then◌else◌}
 use Rattle.std.specs.List.{list_any}
 use Rattle.std.specs.Option.{option_and_then}
-use Rattle.pf_base.specs.Names.{is_host_name, same_in_any_case}
+use Rattle.pf_base.specs.Text.Names.{is_host_name, same_in_any_case}
 use Rattle.pf_eval.specs.Nets.{Net}
 use Rattle.pf_eval.specs.declared.policy.PlainItem.{PlainItem}
 use Rattle.pf_eval.specs.declared.policy.PlainItem.TheVariants.{PermitMynetworks, RejectUnauthDestination}

@@ -1,8 +1,8 @@
 //! A run of smtpd: main.cf, and a session from the input to its end.
 ghost use Rattle.std.specs.Prelude.{◌≡◌, ◌≢◌, List as Seq, Some, Err, IfOk, codes};
-ghost use Rattle.pf_base.specs.Objects.{Says, log_text, objects, sinks};
+ghost use Rattle.pf_base.specs.Outside.Objects.{Says, log_text, objects, sinks};
 ghost use Rattle.pf_base.specs.Refusal.{refusal_line};
-ghost use Rattle.pf_base.specs.Told.{Output, failed_tree};
+ghost use Rattle.pf_base.specs.Outside.Told.{Output, failed_tree};
 ghost use Rattle.pf_base.specs.Clauses.Unless.{Unless};
 ghost use Rattle.pf_base.specs.declared.pair.Pair.{Pair};
 ghost use Rattle.pf_maincf.specs.Clauses.Faults.{Answers};

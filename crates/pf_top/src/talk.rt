@@ -1,6 +1,6 @@
 //! A session over the input, from the greeting to its end.
 ghost use Rattle.std.specs.Prelude.{◌≡◌, ◌<◌, true, length};
-ghost use Rattle.pf_base.specs.Objects.{sinks, streams};
+ghost use Rattle.pf_base.specs.Outside.Objects.{sinks, streams};
 ghost use Rattle.pf_smtp.specs.Clauses.Feeding.{fresh};
 ghost use Rattle.pf_top.specs.Opening.{setup_of};
 ghost use Rattle.pf_top.specs.Talk.{HasSession, Talked};

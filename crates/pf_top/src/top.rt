@@ -1,8 +1,8 @@
 //! The top call.
 ghost use Rattle.std.specs.Prelude.{map};
 ghost use Rattle.std.specs.String.{string_bytes};
-ghost use Rattle.pf_base.specs.Objects.{Says, log_text, objects, sinks};
-ghost use Rattle.pf_base.specs.Told.{Output};
+ghost use Rattle.pf_base.specs.Outside.Objects.{Says, log_text, objects, sinks};
+ghost use Rattle.pf_base.specs.Outside.Told.{Output};
 ghost use Rattle.pf_top.specs.Run.{Leaves, usage_line};
 ghost use Rattle.pf_words.specs.Words as spec;
 

@@ -1,7 +1,7 @@
 -- IPv4 addresses as they are written (postconf(5), mynetworks). That numbers have no leading zeros is postgate's own.
 use Rattle.std.specs.Prelude.{ℕ, ◌+◌, ◌*◌, ◌==◌, List, [], ◌∷◌, Option, Some, None}
 use Rattle.std.specs.List.{slice_split}
-use Rattle.pf_base.specs.Ascii as ascii
+use Rattle.pf_base.specs.Text.Ascii as ascii
 use Rattle.pf_base.specs.Options.{◌>>=◌}
 use Rattle.pf_words.specs.Numbers.{decimal_within}
 

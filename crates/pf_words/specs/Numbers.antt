@@ -4,7 +4,7 @@ use Rattle.std.specs.Char.{is_ascii_digit}
 use Rattle.std.specs.List.{list_all}
 use Rattle.std.specs.Option.{option_and_then}
 use Rattle.std.specs.Str.Parse.{digits_value}
-use Rattle.pf_base.specs.Ascii as ascii
+use Rattle.pf_base.specs.Text.Ascii as ascii
 
 -- decimal digits, of which the first is 0 only where it stands alone
 abbrev pub is_decimal : List ℕ → Bool

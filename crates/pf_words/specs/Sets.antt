@@ -2,7 +2,7 @@
 use Rattle.std.specs.Prelude.{ℕ, ◌+◌, ◌==◌, List, [], ◌∷◌, Option, Some, None, take, drop, if◌then◌else◌}
 use Rattle.std.specs.List.{position}
 use Rattle.std.specs.Option.{option_and_then, option_map}
-use Rattle.pf_base.specs.Ascii as ascii
+use Rattle.pf_base.specs.Text.Ascii as ascii
 use Rattle.pf_maincf.specs.Edit.{are_sets, is_writable}
 use Rattle.pf_maincf.specs.declared.setting.Setting.{Setting}
 

@@ -1,7 +1,7 @@
 //! Words that set a parameter, `name=value`.
 ghost use Rattle.std.specs.Prelude.{◌≡◌, ◌==◌, IfOk, IfSome};
 ghost use Rattle.std.specs.List.{position};
-ghost use Rattle.pf_base.specs.Ascii as ascii;
+ghost use Rattle.pf_base.specs.Text.Ascii as ascii;
 ghost use Rattle.pf_maincf.specs.Edit.{AreSets};
 ghost use Rattle.pf_words.specs.Sets as sets;
 

@@ -2,8 +2,8 @@
 use Rattle.std.specs.Prelude.{ℕ, ◌+◌, ◌-◌, ◌==◌, ◌&&◌, Bool, true, false, not, nat_lt, nat_le, List, [], ◌∷◌, Option, Some, None, length, take, drop, slice_index, if◌then◌else◌}
 use Rattle.std.specs.List.{before_first, prefix_len, take_while}
 use Rattle.std.specs.Option.{option_map}
-use Rattle.pf_base.specs.Ascii as ascii
-use Rattle.pf_base.specs.Space.{is_space}
+use Rattle.pf_base.specs.Text.Ascii as ascii
+use Rattle.pf_base.specs.Text.Space.{is_space}
 use Rattle.pf_addr.specs.Grammar.{is_end, is_literal_byte, is_name_byte, is_plain_byte, is_route}
 use Rattle.pf_addr.specs.declared.address.Address.{Address}
 use Rattle.pf_addr.specs.declared.address.Path.TheVariants.{Null, To}

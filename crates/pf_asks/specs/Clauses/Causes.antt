@@ -1,7 +1,7 @@
 -- How often a call on an object outside counts a fault: just once where it answers that the object failed, and else not at all.
 -- Words of contracts, by no standard.
 use Rattle.std.specs.Prelude.{ℕ, Bool, true, false, Result, Ok, Err, cond}
-use Rattle.pf_base.specs.Counts.{counted_by}
+use Rattle.pf_base.specs.Outside.Counts.{counted_by}
 use Rattle.pf_base.specs.declared.fault.OuterFault.{OuterFault}
 use Rattle.pf_base.specs.declared.fault.OuterFault.TheVariants.{Failed, NoMemory}
 

@@ -3,7 +3,7 @@
 use Rattle.std.specs.Prelude.{◌≡◌, ℕ, Bool, true, false, List, Option, None, Some}
 use Rattle.std.specs.List.{count_by, list_all}
 use Rattle.std.specs.Option.{unwrap_or}
-use Rattle.pf_base.specs.Counts.{counted_by}
+use Rattle.pf_base.specs.Outside.Counts.{counted_by}
 use Rattle.pf_asks.specs.Clauses.Causes.{counted_if}
 
 -- what the object means, where it tells, and how often a call has failed

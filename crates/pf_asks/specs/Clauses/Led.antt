@@ -1,7 +1,7 @@
 -- What contracts say of a call that asks: it led from one question to another. Words of contracts, by no standard.
 use Rattle.std.specs.Prelude.{◌≡◌, ◌≢◌, ◌≤◌, ◌+◌, ◌⊎◌, ◌++◌, ℕ, false, List, [], ◌∷◌, Option, None, Some, Result, Ok, Err, MatchResult, take, length}
 use Rattle.std.specs.List.{count_by}
-use Rattle.pf_base.specs.Counts.{counted_by}
+use Rattle.pf_base.specs.Outside.Counts.{counted_by}
 use Rattle.pf_asks.specs.Heard.{Heard, ◌then◌}
 use Rattle.pf_asks.specs.Clauses.Held.{Held, Hears, Tells, called}
 use Rattle.pf_asks.specs.Looking.{Looked, Stays, Tables, look_failed, looked_up}

@@ -1,7 +1,7 @@
 -- A resolver in memory, as contracts see it: it knows which of its calls fail, and how many there were. It is postgate's own.
 use Rattle.std.specs.Prelude.{◌≡◌, ℕ, Bool, true, List, Option, None, Some, length, nat_lt, if◌then◌else◌}
 use Rattle.std.specs.List.{list_all}
-use Rattle.pf_base.specs.Counts.{counted_by}
+use Rattle.pf_base.specs.Outside.Counts.{counted_by}
 use Rattle.pf_base.specs.Clauses.Memory.{Calls, fails_next, none_made}
 use Rattle.pf_asks.specs.Clauses.Causes.{counted_if}
 use Rattle.pf_asks.specs.Clauses.Held.{Held}

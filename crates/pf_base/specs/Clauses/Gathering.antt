@@ -1,11 +1,11 @@
 -- What one more line does to the logical lines so far. Words of the code's contracts, between a loop over lines and `logical_lines_of`.
 use Rattle.std.specs.Prelude.{◌≡◌, ◌++◌, List, [], ◌∷◌, Option, None, Some, Result, Err, MatchResult}
 use Rattle.std.specs.List.{fold}
-use Rattle.pf_base.specs.Logical.{Physical, Grouped, continued, unless_ignored, outcome}
-use Rattle.pf_base.specs.declared.logical.Logical.{Logical}
-use Rattle.pf_base.specs.declared.logical.Gathered.{Gathered}
-use Rattle.pf_base.specs.declared.logical.TextFault.{TextFault}
-use Rattle.pf_base.specs.declared.logical.TextFault.TheVariants.{Continuation}
+use Rattle.pf_base.specs.Text.Logical.{Physical, Grouped, continued, unless_ignored, outcome}
+use Rattle.pf_base.specs.declared.text.logical.Logical.{Logical}
+use Rattle.pf_base.specs.declared.text.logical.Gathered.{Gathered}
+use Rattle.pf_base.specs.declared.text.logical.TextFault.{TextFault}
+use Rattle.pf_base.specs.declared.text.logical.TextFault.TheVariants.{Continuation}
 
 -- lines so far, the last of which may go on, and then those behind them
 abbrev pub followed_by : List Logical → Option Logical → Grouped → Grouped

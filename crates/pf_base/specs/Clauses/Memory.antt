@@ -1,8 +1,8 @@
 -- The objects in memory, as contracts see them: each knows which of its calls fail, and how many there were. They are postgate's own.
 use Rattle.std.specs.Prelude.{◌≡◌, ◌≤◌, ℕ, ◌-◌, ◌^◌, ◌==◌, Bool, true, false, List, [], ◌∷◌, Some, max, min, length, slice_index}
 use Rattle.std.specs.List.{list_any}
-use Rattle.pf_base.specs.Counts.{counted}
-use Rattle.pf_base.specs.Told.{Input, Output, Tree}
+use Rattle.pf_base.specs.Outside.Counts.{counted}
+use Rattle.pf_base.specs.Outside.Told.{Input, Output, Tree}
 use Rattle.pf_base.specs.declared.pair.Pair.{Pair}
 
 -- the numbers, from 1, of the calls that fail, how many calls were made, and how many of them failed

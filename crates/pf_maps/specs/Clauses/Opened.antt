@@ -1,6 +1,6 @@
 -- What a call leaves of the files that opens tables. Words of contracts, by no standard.
 use Rattle.std.specs.Prelude.{◌≡◌, List, Some, Result, Ok, Err}
-use Rattle.pf_base.specs.Told.{Tree, failed_tree}
+use Rattle.pf_base.specs.Outside.Told.{Tree, failed_tree}
 use Rattle.pf_base.specs.declared.pair.Pair.{Pair}
 use Rattle.pf_base.specs.declared.refused.ConfFault.{ConfFault}
 use Rattle.pf_base.specs.declared.refused.ConfFault.TheVariants as conf_fault

@@ -1,6 +1,6 @@
 -- Opened tables, as contracts see them. Words of contracts, by no standard.
 use Rattle.std.specs.Prelude.{ℕ, true, List, Option, None, Some, Result, Ok, length, slice_get}
-use Rattle.pf_base.specs.Counts.{counted_by}
+use Rattle.pf_base.specs.Outside.Counts.{counted_by}
 use Rattle.pf_base.specs.Results.{◌>>=◌}
 use Rattle.pf_base.specs.declared.refused.Refused.{Refused}
 use Rattle.pf_asks.specs.Looking.{Meaning, Tables, Values}

@@ -1,10 +1,10 @@
 -- What contracts say of a session that is fed piece by piece: its progress between two pieces, and what it wrote. Words of contracts; the
 -- session itself is the definition over its whole input.
 use Rattle.std.specs.Prelude.{◌≡◌, ℕ, ◌+◌, ◌++◌, Bool, false, List, [], take, if◌then◌else◌}
-use Rattle.pf_base.specs.Lines.{lines, rest}
-use Rattle.pf_base.specs.Objects.{Sinks, appended}
+use Rattle.pf_base.specs.Text.Lines.{lines, rest}
+use Rattle.pf_base.specs.Outside.Objects.{Sinks, appended}
 use Rattle.pf_base.specs.Clauses.Pieces.{onto_line, unless_line}
-use Rattle.pf_base.specs.declared.texts.Texts.{Texts}
+use Rattle.pf_base.specs.declared.outside.texts.Texts.{Texts}
 use Rattle.pf_smtp.specs.Session.{start, steps, texts_of}
 use Rattle.pf_smtp.specs.Step.{Step, line_limit}
 use Rattle.pf_smtp.specs.declared.state.Setup.{Setup}

@@ -1,8 +1,8 @@
 -- What a line and a piece of the input add to the texts that a session has to write. Words of the code's contracts, between its loop over
 -- a piece and the session.
 use Rattle.std.specs.Prelude.{◌≡◌, ℕ, ◌++◌, false, List, []}
-use Rattle.pf_base.specs.Objects.{joined}
-use Rattle.pf_base.specs.declared.texts.Texts.{Texts}
+use Rattle.pf_base.specs.Outside.Objects.{joined}
+use Rattle.pf_base.specs.declared.outside.texts.Texts.{Texts}
 use Rattle.pf_smtp.specs.Clauses.Feeding.{given, partial_after, texts_given}
 use Rattle.pf_smtp.specs.Session.{texts_of}
 use Rattle.pf_smtp.specs.Step.{Step, step}

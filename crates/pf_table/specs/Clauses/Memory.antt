@@ -1,7 +1,7 @@
 -- Tables in memory, as contracts see them: they know which of their calls fail, and how many calls and lookups there were. They are
 -- postgate's own.
 use Rattle.std.specs.Prelude.{◌≡◌, ℕ, Bool, true, false, List, Option, None, Some, length, slice_get}
-use Rattle.pf_base.specs.Counts.{counted_by}
+use Rattle.pf_base.specs.Outside.Counts.{counted_by}
 use Rattle.pf_base.specs.Clauses.Memory.{Calls, fails_next}
 use Rattle.pf_base.specs.declared.pair.Pair.{Pair}
 use Rattle.pf_asks.specs.Clauses.Causes.{counted_if}

@@ -1,9 +1,9 @@
 -- The turns of the loop over the input. Words of the code's contracts, between that loop and the session over the whole input.
 use Rattle.std.specs.Prelude.{◌≡◌, ℕ, ◌<◌, ◌≤◌, true, false, List, Result, Ok, Err, length}
 use Rattle.std.specs.Io.KnownBytes.{IsAtEnd}
-use Rattle.pf_base.specs.Objects.{Streams, StopsBy}
-use Rattle.pf_base.specs.Told.{Takes, failed_input, found_end}
-use Rattle.pf_base.specs.declared.texts.SinkFault.{SinkFault}
+use Rattle.pf_base.specs.Outside.Objects.{Streams, StopsBy}
+use Rattle.pf_base.specs.Outside.Told.{Takes, failed_input, found_end}
+use Rattle.pf_base.specs.declared.outside.texts.SinkFault.{SinkFault}
 use Rattle.pf_smtp.specs.Clauses.Feeding.{Took, given, texts_given}
 use Rattle.pf_smtp.specs.declared.progress.Progress.{Progress}
 use Rattle.pf_top.specs.Talk.{Speech}

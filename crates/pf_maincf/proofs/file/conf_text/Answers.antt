@@ -1,5 +1,5 @@
 use Rattle.std.proofs.Common.{Err, ap, ◌∙◌}
-use Rattle.pf_base.specs.FileList.{whole_file}
+use Rattle.pf_base.specs.Outside.FileList.{whole_file}
 use Rattle.pf_maincf.proofs.FileLaws.{found, no_name}
 use Rattle.pf_maincf.specs.File.{text_read}
 use Rattle.pf_maincf.proofs.file.conf_text.Goals as goal

@@ -1,6 +1,6 @@
 use Rattle.std.proofs.Common.{◌≡◌, ◌+◌, drop}
 use Rattle.std.specs.List.{position_or_len}
-use Rattle.pf_base.specs.Space.{is_space}
+use Rattle.pf_base.specs.Text.Space.{is_space}
 use Rattle.pf_smtp.proofs.command.word_end.Given as goal
 
 abbrev pub invariant-loop-i : goal.invariant-loop-i

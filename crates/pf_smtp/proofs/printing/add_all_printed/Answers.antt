@@ -1,7 +1,7 @@
 use Rattle.std.proofs.Common.{◌++◌, ap, ◌∙◌, arith}
 use Rattle.std.proofs.lemmas.List.{take_all}
 use Rattle.std.specs.List.{flat_map}
-use Rattle.pf_base.specs.Printing.{printed}
+use Rattle.pf_base.specs.Text.Printing.{printed}
 use Rattle.pf_smtp.proofs.PrintingLemmas.{printed_parts}
 use Rattle.pf_smtp.proofs.printing.add_all_printed.Goals as goal
 

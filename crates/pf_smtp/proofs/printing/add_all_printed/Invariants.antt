@@ -1,6 +1,6 @@
 use Rattle.std.proofs.Common.{◌≡◌, ◌++◌, take}
 use Rattle.std.specs.List.{flat_map}
-use Rattle.pf_base.specs.Printing.{printed}
+use Rattle.pf_base.specs.Text.Printing.{printed}
 use Rattle.pf_smtp.proofs.printing.add_all_printed.Given as goal
 
 abbrev pub invariant-loop-part : goal.invariant-loop-part

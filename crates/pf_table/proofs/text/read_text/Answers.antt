@@ -1,6 +1,6 @@
 use Rattle.std.proofs.Common.{◌≢◌, ℕ, refl}
 use Rattle.std.proofs.lemmas.Result.{err_from_is_err_and}
-use Rattle.pf_base.specs.declared.logical.TextFault.TheVariants.{Continuation, NoMemory}
+use Rattle.pf_base.specs.declared.text.logical.TextFault.TheVariants.{Continuation, NoMemory}
 use Rattle.pf_table.proofs.TextLemmas.{continued, lines_are, stays_fault, there}
 use Rattle.pf_table.proofs.text.read_text.Goals as goal
 

@@ -1,5 +1,5 @@
 use Rattle.std.proofs.Common.{length-take, ap, arith}
-use Rattle.pf_base.specs.Objects.{sinks, streams}
+use Rattle.pf_base.specs.Outside.Objects.{sinks, streams}
 use Rattle.pf_top.proofs.TalkLemmas.{budget_here, ends_here, over_here, passed_more, passed_none, talked_fault}
 use Rattle.pf_top.proofs.talk.serve.Goals as goal
 

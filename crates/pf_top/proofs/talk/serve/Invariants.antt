@@ -1,5 +1,5 @@
 use Rattle.std.proofs.Common.{◌≡◌, ◌≤◌, ◌-◌, true, false}
-use Rattle.pf_base.specs.Objects.{sinks, streams}
+use Rattle.pf_base.specs.Outside.Objects.{sinks, streams}
 use Rattle.pf_top.specs.Clauses.Turns.{Passed}
 use Rattle.pf_top.proofs.talk.serve.Given as goal
 

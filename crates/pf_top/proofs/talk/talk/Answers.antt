@@ -1,5 +1,5 @@
 use Rattle.std.proofs.Common.{ap, inl, refl, ◌∙◌}
-use Rattle.pf_base.specs.Objects.{streams}
+use Rattle.pf_base.specs.Outside.Objects.{streams}
 use Rattle.pf_top.specs.Opening.{setup_of}
 use Rattle.pf_top.proofs.TalkLemmas.{has_session}
 use Rattle.pf_top.proofs.talk.talk.Goals as goal

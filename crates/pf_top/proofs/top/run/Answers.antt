@@ -1,5 +1,5 @@
 use Rattle.std.proofs.Common.{refl}
-use Rattle.pf_base.specs.Objects.{objects}
+use Rattle.pf_base.specs.Outside.Objects.{objects}
 use Rattle.pf_top.proofs.RunLemmas.{nothing_left, postconf_left, smtpd_left, unformed_left}
 use Rattle.pf_top.proofs.StatusLemmas.{said_usage}
 use Rattle.pf_top.proofs.top.run.Goals as goal

@@ -1,5 +1,5 @@
 use Rattle.std.proofs.Common.{◌≢◌, ℕ}
-use Rattle.pf_base.specs.declared.logical.TextFault.TheVariants.{Continuation, NoMemory}
+use Rattle.pf_base.specs.declared.text.logical.TextFault.TheVariants.{Continuation, NoMemory}
 use Rattle.pf_cidr.proofs.FaultLemmas.{continued, table_of_lines}
 use Rattle.pf_cidr.proofs.table.CidrTable.read.Goals as goal
 

@@ -1,6 +1,6 @@
 use Rattle.std.proofs.Common.{◌≢◌, ℕ}
 use Rattle.std.proofs.lemmas.Result.{err_from_is_err_and}
-use Rattle.pf_base.specs.declared.logical.TextFault.TheVariants.{Continuation, NoMemory}
+use Rattle.pf_base.specs.declared.text.logical.TextFault.TheVariants.{Continuation, NoMemory}
 use Rattle.pf_maincf.proofs.FaultLemmas.{conf_fault, conf_of_lines, continued, there}
 use Rattle.pf_maincf.proofs.maincf.MainCf.read.Goals as goal
 

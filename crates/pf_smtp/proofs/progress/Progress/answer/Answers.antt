@@ -1,6 +1,6 @@
 use Rattle.std.proofs.Common.{ap}
 use Rattle.pf_base.proofs.StatusLemmas.{said_record}
-use Rattle.pf_base.specs.Objects.{sinks}
+use Rattle.pf_base.specs.Outside.Objects.{sinks}
 use Rattle.pf_smtp.proofs.PieceLemmas.{no_record}
 use Rattle.pf_smtp.proofs.progress.Progress.answer.Goals as goal
 

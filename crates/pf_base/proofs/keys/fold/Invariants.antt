@@ -1,6 +1,0 @@
-use Rattle.std.proofs.Common.{◌≡◌, take}
-use Rattle.pf_base.specs.Names as names
-use Rattle.pf_base.proofs.keys.fold.Given as goal
-
-abbrev pub invariant-loop-b : goal.invariant-loop-b
-invariant-loop-b l = l.folded ≡ names.folded (take l.b-index l.key)
