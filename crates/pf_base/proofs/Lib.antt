@@ -4,6 +4,7 @@ pub mod FileListLemmas
 pub mod FrontLemmas
 pub mod LineEnds
 pub mod LogicalLemmas
+pub mod NumberLemmas
 pub mod Parts
 pub mod PrintingLaws
 pub mod Rows

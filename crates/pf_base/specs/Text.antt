@@ -4,6 +4,7 @@ pub mod Braces
 pub mod Lines
 pub mod Logical
 pub mod Names
+pub mod Numbers
 pub mod Printing
 pub mod Space
 pub mod Words

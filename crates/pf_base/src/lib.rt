@@ -31,7 +31,7 @@ pub use text::keys::fold;
 pub use text::lines::{first_line, without_return};
 pub use text::logical::{Logical, TextFault, is_ignored, logical_lines, starts_with_space};
 pub use text::names::{is_host_name, same_in_any_case};
-pub use text::numbers::decimal;
+pub use text::numbers::{decimal, decimal_within};
 pub use text::printing::{add_line, add_printed};
 pub use text::space::{is_space, trimmed, without_leading_space};
 pub use text::words::{WordsFault, words_of};

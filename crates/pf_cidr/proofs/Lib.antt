@@ -4,7 +4,6 @@ pub mod CountLaws
 pub mod FaultLemmas
 pub mod FindLaws
 pub mod NetLaws
-pub mod NumberLemmas
 pub mod PrintedLaws
 pub mod Rows
 pub mod SlashLaws

@@ -14,12 +14,12 @@ use Rattle.std.specs.Net.Reader.{read_ipv4, read_ipv6, read_number, read_octet, 
 use Rattle.std.specs.Str.Parse.{digits_value}
 use Rattle.pf_cidr.specs.Addresses.{address_of}
 use Rattle.pf_cidr.specs.Nets.{IsHost, IsNet, Network, Reads, alone, bracketed, has_host_bits, host_of, if_v6, is_in_brackets, is_slash, net_of, part, plain, prefixed, whole, width, written_net}
-use Rattle.pf_cidr.specs.Numbers.{decimal_within, is_decimal}
+use Rattle.pf_base.specs.Text.Numbers.{decimal_within, is_decimal}
 use Rattle.pf_cidr.specs.declared.address.Addr.{Addr}
 use Rattle.pf_cidr.specs.declared.address.Addr.TheVariants.{V4, V6}
 use Rattle.pf_cidr.proofs.AddressLaws.{address_complete, address_sound}
 use Rattle.pf_cidr.proofs.Cases.{either_option, either_way}
-use Rattle.pf_cidr.proofs.NumberLemmas.{not_empty, own}
+use Rattle.pf_base.proofs.NumberLemmas.{not_empty, own}
 use Rattle.pf_cidr.proofs.SlashLaws.{host_slashless}
 
 -- no address begins with a bracket

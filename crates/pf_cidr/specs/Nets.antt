@@ -6,7 +6,7 @@ use Rattle.std.specs.Option.{option_and_then}
 use Rattle.pf_base.specs.Text.Ascii as ascii
 use Rattle.pf_base.specs.Options.{◌>>=◌}
 use Rattle.pf_cidr.specs.Addresses.{IsWritten, address_of}
-use Rattle.pf_cidr.specs.Numbers.{decimal_within}
+use Rattle.pf_base.specs.Text.Numbers.{decimal_within}
 use Rattle.pf_cidr.specs.declared.address.Addr.{Addr}
 use Rattle.pf_cidr.specs.declared.address.Addr.TheVariants.{V4, V6}
 use Rattle.pf_cidr.specs.declared.net.NetFault.{NetFault}

@@ -5,7 +5,6 @@
 mod address;
 mod entry;
 mod net;
-mod numbers;
 mod reason;
 mod table;
 

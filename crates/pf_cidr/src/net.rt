@@ -4,8 +4,7 @@ ghost use Rattle.std.specs.List.{list_any};
 ghost use Rattle.pf_cidr.specs.Nets as nets;
 
 use crate::address::Addr;
-use crate::numbers::decimal_within;
-use pf_base::{before_byte, behind_byte};
+use pf_base::{before_byte, behind_byte, decimal_within};
 use std::marker::Model;
 
 // How many bits an IPv4 address has.

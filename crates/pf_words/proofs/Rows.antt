@@ -11,7 +11,8 @@ use Rattle.pf_base.specs.Options.{◌>>=◌}
 use Rattle.pf_words.specs.Address.{ipv4_of, ipv4_of_octets, octet_of}
 use Rattle.pf_words.specs.Commands.{bare_app, postconf_app, smtpd_app, with_flag, with_option, with_rest}
 use Rattle.pf_words.specs.Found.{has_flag, rows_in, value_in}
-use Rattle.pf_words.specs.Numbers.{budget_of, decimal_within, is_decimal}
+use Rattle.pf_base.specs.Text.Numbers.{decimal_within, is_decimal}
+use Rattle.pf_words.specs.Numbers.{budget_of}
 use Rattle.pf_words.specs.Postconf.{conf_in, conf_of}
 use Rattle.pf_words.specs.Sets.{setting_of_word, settings_of_words}
 use Rattle.pf_words.specs.Smtpd.{smtpd_in, smtpd_of}

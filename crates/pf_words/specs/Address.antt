@@ -3,7 +3,7 @@ use Rattle.std.specs.Prelude.{ℕ, ◌+◌, ◌*◌, ◌==◌, List, [], ◌∷�
 use Rattle.std.specs.List.{slice_split}
 use Rattle.pf_base.specs.Text.Ascii as ascii
 use Rattle.pf_base.specs.Options.{◌>>=◌}
-use Rattle.pf_words.specs.Numbers.{decimal_within}
+use Rattle.pf_base.specs.Text.Numbers.{decimal_within}
 
 -- a decimal number from 0 to 255
 unfoldable pub octet_of : List ℕ → Option ℕ

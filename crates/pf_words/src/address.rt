@@ -2,8 +2,7 @@
 ghost use Rattle.std.specs.Prelude.{◌≡◌, [], ◌∷◌};
 ghost use Rattle.pf_words.specs.Address as address;
 
-use crate::numbers::decimal_within;
-use pf_base::cut_at;
+use pf_base::{cut_at, decimal_within};
 
 /// The decimal number from 0 to 255 without leading zeros that a text writes, one of the four of an address; None where the text is none
 /// (postconf(5), mynetworks; that there are no leading zeros is postgate's own).

@@ -1,48 +1,11 @@
 //! Numbers as they are written in words.
-ghost use Rattle.std.specs.Prelude.{◌≡◌, ◌≤◌, IfSome};
-ghost use Rattle.std.specs.Char.{is_ascii_digit};
-ghost use Rattle.std.specs.List.{list_all};
+ghost use Rattle.std.specs.Prelude.{◌≡◌};
 ghost use Rattle.pf_words.specs.Numbers as numbers;
+
+use pf_base::decimal_within;
 
 // How many bytes a session may take at most.
 pub(crate) const GREATEST_BUDGET: u64 = 4_294_967_296;
-
-fn has_digits(text: &[u8]) -> bool
-    ensures { result ≡ list_all is_ascii_digit text.now }
-{
-    text.iter().all(|b| b.is_ascii_digit())
-}
-
-// Whether a text is decimal digits without a leading zero.
-fn is_decimal(text: &[u8]) -> bool
-    ensures { result ≡ numbers.is_decimal text.now }
-{
-    has_digits(text) && (text.len() == 1 || text.len() > 1 && text[0] != b'0')
-}
-
-fn at_most(most: u64, number: u64) -> Option<u64>
-    ensures is { result ≡ numbers.at_most most number }
-    ensures within { IfSome result (λ n. n ≤ most) }
-{
-    if number <= most { Some(number) } else { None }
-}
-
-/// The number up to `most` that decimal digits without sign or leading zeros write; None where the text is none.
-pub(crate) fn decimal_within(text: &[u8], most: u64) -> Option<u64>
-    ensures is { result ≡ numbers.decimal_within most text.now }
-    ensures within { IfSome result (λ number. number ≤ most) }
-{
-    if !is_decimal(text) {
-        return None;
-    }
-    let Ok(digits) = str::from_utf8(text) else {
-        unreachable!();
-    };
-    match digits.parse::<u64>() {
-        Ok(number) => at_most(most, number),
-        Err(_) => None,
-    }
-}
 
 fn at_least_one(number: u64) -> Option<u64>
     ensures { result ≡ numbers.at_least_one number }

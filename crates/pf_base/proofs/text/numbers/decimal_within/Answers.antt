@@ -1,6 +1,6 @@
 use Rattle.std.proofs.Common.{sym, arith}
-use Rattle.pf_cidr.proofs.NumberLemmas.{decimal_not_read, digits_are_text}
-use Rattle.pf_cidr.proofs.numbers.decimal_within.Goals as goal
+use Rattle.pf_base.proofs.NumberLemmas.{decimal_not_read, digits_are_text}
+use Rattle.pf_base.proofs.text.numbers.decimal_within.Goals as goal
 
 pub unreachable-requires : goal.unreachable-requires
 unreachable-requires c = c.in_default.ensures.cases.0 (digits_are_text c.args.text.now (sym c.if-not-is_decimal.ensures))
