@@ -2,7 +2,7 @@
 //! how many rows there were.
 //!
 //! A row is `SPELLING¦LOCAL¦DOMAIN¦END¦PRINTED`, or `SPELLING¦null¦END`, or `SPELLING¦none` where no path is spelled. A
-//! tab, a byte of 0 and one of 127 stand as `␉`, `␀` and `␡`. Rows that begin with `# ` are comments.
+//! tab, a byte of 0 and one of 127 are `␉`, `␀` and `␡`. Rows that begin with `# ` are comments.
 #![tactic(auto)]
 
 use pf_addr::{Address, Path, PathFault, PathRead, path, print};

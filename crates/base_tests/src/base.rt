@@ -60,7 +60,7 @@ fn add_refusal(alloc: Global, said: &mut Bytes, text: &[u8]) -> Result<(), NoMem
     said.extend(refused.line(alloc)?.as_slice())
 }
 
-// Adds the words of a value, each with a bar behind it, or where a brace stands that has no partner.
+// Adds the words of a value, each with a bar after it, or where a brace is that has no partner.
 fn add_words(alloc: Global, said: &mut Bytes, text: &[u8]) -> Result<(), NoMemory> {
     match words_of(alloc, text) {
         Err(WordsFault::NoMemory) => Err(NoMemory),
@@ -77,7 +77,7 @@ fn add_words(alloc: Global, said: &mut Bytes, text: &[u8]) -> Result<(), NoMemor
     }
 }
 
-// Adds where the first closing brace without a partner stands.
+// Adds where the first closing brace without a partner is.
 fn add_brace(alloc: Global, said: &mut Bytes, text: &[u8]) -> Result<(), NoMemory> {
     match closing_brace(text) {
         None => said.extend(b"none"),

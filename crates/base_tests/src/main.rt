@@ -1,10 +1,10 @@
-//! Says what pf_base and pf_asks say of texts, of the rows of the file `rows`. Their fronts ask:
+//! Says what pf_base and pf_asks say of texts, of the rows of the file `rows`. Their prefixes ask:
 //!
 //! - `bytes`: what bytes hold that were made of the first part of the text (`|` parts it), one byte, a piece and three pieces,
 //!   then their copy, and their length once they are cleared
 //! - `list`: the bytes of the text, taken from the end of a list
 //! - `refusal`: the line that says that a file is not there; the text is its name and a name
-//! - `words`: the words of the text, each with a bar behind it, or where a brace stands that has no partner
+//! - `words`: the words of the text, each with a bar after it, or where a brace is that has no partner
 //! - `brace`: where the text has its first closing brace without a partner
 //! - `texts`: the line of a table text and the text, among those of main.cf; without a text, how many these are, and the file
 //! - `folded`: the text in small letters
@@ -31,16 +31,16 @@ impl Says for Asked {
         &mut self,
         alloc: Global,
         said: &mut Bytes,
-        front: &str,
+        prefix: &str,
         text: &str,
     ) -> Result<(), NoMemory> {
         let text = text.as_bytes();
-        match front.split_once(' ') {
+        match prefix.split_once(' ') {
             Some(("resolver", number)) => {
                 add_resolver(alloc, said, number.parse::<u64>().unwrap_or(0), text)
             }
             Some(("links", step)) => add_links(alloc, said, step, text),
-            _ => add_said(alloc, said, front, text),
+            _ => add_said(alloc, said, prefix, text),
         }
     }
 }

@@ -41,7 +41,7 @@ impl Case {
         Ok(())
     }
 
-    // Takes a line that begins no case, and says whether it stands in a table.
+    // Takes a line that begins no case, and says whether it is in a table.
     fn take(&mut self, alloc: Global, line: &[u8], in_rows: bool) -> Result<bool, NoMemory> {
         match section_title(line) {
             Some(b"rows") => {
@@ -65,7 +65,7 @@ impl Case {
 }
 
 impl CaseFile {
-    // Takes a line, and says whether it stands in a table.
+    // Takes a line, and says whether it is in a table.
     fn take(&mut self, alloc: Global, line: &[u8], in_rows: bool) -> Result<bool, NoMemory> {
         if let Some(name) = case_name(line) {
             self.cases.push(Case::new(alloc, name)?)?;

@@ -35,7 +35,7 @@ fn add_repeated(out: &mut Bytes, written: &[u8]) -> Result<(), Fault> {
     Ok(())
 }
 
-// Adds what stands in braces after a backslash, and gives what stands after them.
+// Adds what is in braces after a backslash, and gives what is after them.
 fn add_braced<'a>(out: &mut Bytes, after: &'a [u8]) -> Result<&'a [u8], Fault> {
     match cut_at(after, b'}') {
         None => Err(Fault::Refused(Refusal::Escape)),
@@ -58,7 +58,7 @@ fn letter_byte(letter: u8) -> Result<u8, Fault> {
     }
 }
 
-// Adds what the text after a backslash stands for, and gives what stands after that.
+// Adds what the text after a backslash stands for, and gives what is after that.
 fn add_escape<'a>(out: &mut Bytes, after: &'a [u8]) -> Result<&'a [u8], Fault> {
     match after {
         [] => Err(Fault::Refused(Refusal::Escape)),

@@ -15,9 +15,9 @@ fn without_end(line: &[u8]) -> &[u8] {
     }
 }
 
-// What stands between two marks, without the blanks round it; blanks and a CR behind the second mark do not count.
-fn between<'a>(line: &'a [u8], front: &[u8], end: &[u8]) -> Option<&'a [u8]> {
-    match line.strip_prefix(front) {
+// What is between two marks, without the blanks round it; blanks and a CR after the second mark do not count.
+fn between<'a>(line: &'a [u8], prefix: &[u8], end: &[u8]) -> Option<&'a [u8]> {
+    match line.strip_prefix(prefix) {
         None => None,
         Some(rest) => match without_end(rest).strip_suffix(end) {
             None => None,

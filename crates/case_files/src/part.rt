@@ -15,7 +15,7 @@ const WITH_ESCAPES: &[u8] = b", with escapes";
 
 const AFTERWARDS: &[u8] = b" afterwards";
 
-// The section that a line stands in. A file has its place among those of the plan.
+// The section that a line is in. A file has its place among those of the plan.
 #[derive(Clone, Copy)]
 enum Section {
     Outside,
@@ -56,7 +56,7 @@ fn begin(text: &mut Text, layer: Layer, section: Section) -> Result<Section, Fau
     }
 }
 
-// Begins the session, which stands in the place of the shared one on both sides.
+// Begins the session, which is in the place of the shared one on both sides.
 fn begin_session(plan: &mut Plan, layer: Layer) -> Result<Section, Fault> {
     if plan.session == layer {
         return Err(Fault::Refused(Refusal::TwoSections));

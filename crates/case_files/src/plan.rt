@@ -3,7 +3,7 @@ use crate::statement::{Object, Statement};
 use pf_base::{Bytes, NoMemory};
 use std::alloc::Global;
 
-/// Where something was named; what a case names itself stands in the place of what its file shares.
+/// Where something was named; what a case names itself is in the place of what its file shares.
 #[derive(Clone, Copy, PartialEq, Eq)]
 pub enum Layer {
     Unnamed,

@@ -13,7 +13,7 @@ fn has_line(text: &[u8], wanted: &[u8]) -> bool {
     text.split(|b| *b == b'\n').any(|line| line == wanted)
 }
 
-/// Reads a case, or one row of it, behind what all cases of its file share.
+/// Reads a case, or one row of it, after what all cases of its file share.
 pub fn plan_of(alloc: Global, file: &CaseFile, case: &Case, row: Row<'_>) -> Result<Plan, Fault> {
     let shared = row.filled(alloc, file.shared.as_slice())?;
     let own = row.filled(alloc, case.own.as_slice())?;

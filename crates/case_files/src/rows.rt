@@ -70,7 +70,7 @@ impl<'a> Row<'a> {
         None
     }
 
-    // Adds what an opening brace begins, and gives what stands after that: a cell, or the brace as it stands.
+    // Adds what an opening brace begins, and gives what is after that: a cell, or the brace as it is.
     fn add_braced<'b>(&self, out: &mut Bytes, after: &'b [u8]) -> Result<Filled<'b>, NoMemory> {
         if let Some((name, rest)) = cut_at(after, b'}') {
             if let Some(cell) = self.cell(name) {
@@ -119,7 +119,7 @@ impl<'a> Row<'a> {
     }
 }
 
-// What is left of a line after a brace, and whether a cell stood there.
+// What is left of a line after a brace, and whether a cell was there.
 #[derive(Clone, Copy)]
 struct Filled<'b> {
     rest: &'b [u8],

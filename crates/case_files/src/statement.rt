@@ -81,7 +81,7 @@ static STATEMENTS: [(&str, Statement); 18] = [
 ];
 
 // A line as it is read from the left: its text with N in the place of its number and Nth in that of its ordinal, that number,
-// and the letters that stand right behind it so far.
+// and the letters that are right after it so far.
 #[derive(Drop)]
 struct Shape {
     text: Bytes,
@@ -126,7 +126,7 @@ impl Shape {
         }
     }
 
-    // Ends a number: the right letters behind it make it an ordinal.
+    // Ends a number: the right letters after it make it an ordinal.
     fn close(&mut self) -> Result<(), Fault> {
         if self.in_number && self.letters.len() > 0 {
             if self.letters.as_slice() != ordinal_end(self.number.unwrap_or(0)) {

@@ -5,7 +5,7 @@ use case_files::Plan;
 use pf_base::{Bytes, NoMemory};
 use std::alloc::Global;
 
-// Where two texts are shown from: the front, or the first byte that differs where that stands too far behind.
+// Where two texts are shown from: the prefix, or the first byte that differs where that is too far after.
 fn shown_from(wanted: &[u8], seen: &[u8]) -> usize {
     let place = wanted.iter().zip(seen.iter()).position(|(a, b)| *a != *b);
     let place = place.unwrap_or(wanted.len().min(seen.len()));

@@ -21,7 +21,7 @@ const SUFFIX: &str = ".case";
 /// A case differed, or could not be run.
 const DIFFERS: u8 = 1;
 
-/// A case file could not be read, or memory was wanting.
+/// A case file could not be read, or it was out of memory.
 const STOPPED: u8 = 2;
 
 const UNREAD: &[u8] = b"cases: a case file can not be read, or there is not enough memory\n";

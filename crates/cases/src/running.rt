@@ -21,7 +21,7 @@ pub struct Left {
     pub unread: u64,
 }
 
-// The last call of an object that is named; those of the case stand behind those that all cases of its file share.
+// The last call of an object that is named; those of the case are after those that all cases of its file share.
 fn last_of(calls: &[Call], object: Object) -> Option<Call> {
     let mut last = None;
     for call in calls {

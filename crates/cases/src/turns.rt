@@ -36,16 +36,16 @@ fn status_of(object: Object) -> u64 {
 }
 
 // Whether a log is the one line that tells a fault of the files.
-fn tells_files(log: &[u8]) -> bool {
-    let is_told = log.ends_with(b": read failed\n") || log.ends_with(b": replace failed\n");
-    is_told && log.iter().filter(|b| **b == b'\n').count() == 1
+fn knows_files(log: &[u8]) -> bool {
+    let is_known = log.ends_with(b": read failed\n") || log.ends_with(b": replace failed\n");
+    is_known && log.iter().filter(|b| **b == b'\n').count() == 1
 }
 
 // Whether a run that met a fault left prefixes of what the whole one left.
 fn is_cut_off(object: Object, whole: &Left, left: &Left) -> bool {
     let log = left.log.bytes().as_slice();
     let has_log = match object {
-        Object::Files => tells_files(log),
+        Object::Files => knows_files(log),
         _ => whole.log.bytes().as_slice().starts_with(log),
     };
     has_log

@@ -28,11 +28,11 @@ fn a_file_that_is_cut_off_is_refused(rt: HostRuntime) -> Result<(), Fail> {
         (2048, Damage::TableRange { table: 37 }),
         (2128, Damage::TableRange { table: 37 }),
     ] {
-        let mut front = Bytes::new(alloc);
+        let mut prefix = Bytes::new(alloc);
         for b in file.as_slice().iter().take(size) {
-            front.push(*b)?;
+            prefix.push(*b)?;
         }
-        assert_eq!(rt; check(front.as_slice()), Err(damage));
+        assert_eq!(rt; check(prefix.as_slice()), Err(damage));
     }
     Ok(())
 }
@@ -44,7 +44,7 @@ fn each_damage_has_its_place(rt: HostRuntime) -> Result<(), Fail> {
     let slot = Damage::SlotRange { table: 37, slot: 4 };
     let hash = Damage::WrongHash { table: 37, slot: 4 };
     for (at, byte, answer) in [
-        // the place of the record of slot 4, 2048 at first: before the header's end, and behind the file
+        // the place of the record of slot 4, 2048 at first: before the header's end, and after the file
         (2118, 7, Err(slot)),
         (2119, 1, Err(slot)),
         // the length of the first key, and of the first value

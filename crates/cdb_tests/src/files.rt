@@ -14,7 +14,7 @@ pub const II: u32 = 0x596F25;
 
 pub const QQ: u32 = 0x597025;
 
-/// A file with table 37 alone, whose slots stand from `at` to `end`.
+/// A file with table 37 alone, whose slots are from `at` to `end`.
 pub fn file_of(
     alloc: Global,
     records: &[u8],

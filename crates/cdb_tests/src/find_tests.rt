@@ -4,7 +4,7 @@ use pf_cdb::{check, elements, hash};
 use std::alloc::Global;
 use std::test::Fail;
 
-// The pairs of a file, each key and value with a bar behind it.
+// The pairs of a file, each key and value with a bar after it.
 fn listed(alloc: Global, file: &[u8]) -> Result<Bytes, NoMemory> {
     let mut text = Bytes::new(alloc);
     if let Ok(()) = check(file) {

@@ -21,7 +21,7 @@ fn slots_in(file: &[u8], table: u32) -> u32 {
     word(file, u64::from(table) * 8 + 4)
 }
 
-// Where a slot stands.
+// Where a slot is.
 fn slot_at(file: &[u8], table: u32, slot: u32) -> u64 {
     u64::from(word(file, u64::from(table) * 8)) + u64::from(slot) * 8
 }

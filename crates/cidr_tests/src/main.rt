@@ -1,7 +1,7 @@
 //! Reads rows of addresses, nets and tables of nets as they are written and of what is said of each, and prints the rows where
 //! pf_cidr says otherwise, and how many rows there were.
 //!
-//! A row is `KIND¦TEXT¦ANSWER`, and a line feed of the text stands as `␤`. Of the kind `read` the text is an address and the
+//! A row is `KIND¦TEXT¦ANSWER`, and a line feed of the text is as `␤`. Of the kind `read` the text is an address and the
 //! answer the address as it is printed, or `none`; of the kind `net` a net, and `net`, `host bits` or `syntax`; of the kind
 //! `has` a net and on the next line an address, and `yes` or `no`; of the kind `table` the text of a table, and the number of its
 //! rules or the line of its refusal; of the kind `find` an address and from the next line on the text of a table, and the result

@@ -2,12 +2,12 @@
 //! how many rows there were.
 //!
 //! A row is `FRONT¦TEXT¦SAID`. Where FRONT is `spec`, SAID has what the text names, each node as its type and its name, the
-//! members of a union or a pipe behind it, all parted by bars, or the line of the refusal. `file NAME` gives a file of this name
-//! the bytes TEXT, for the rows behind it. `find KEY` opens the table of TEXT and asks it for the key; SAID is the value, `none`,
-//! `fails`, or the line of the refusal. With `-f` behind `find` keys are not folded. `results` asks for the values that the table
+//! members of a union or a pipe after it, all parted by bars, or the line of the refusal. `file NAME` gives a file of this name
+//! the bytes TEXT, for the rows after it. `find KEY` opens the table of TEXT and asks it for the key; SAID is the value, `none`,
+//! `fails`, or the line of the refusal. With `-f` after `find` keys are not folded. `results` asks for the values that the table
 //! may give; SAID is `partial` where it has partial keys, and each value, or `anything`. `open` opens the tables of several texts,
 //! parted by `;`, and SAID is their number. In `failing N` call N on the files fails; SAID is then `failed FILE`. A line feed
-//! stands as `␊`. Rows that begin with `# ` are comments.
+//! is as `␊`. Rows that begin with `# ` are comments.
 #![tactic(auto)]
 
 use pf_asks::{Found, Lookup, Results, TableFault};
@@ -18,7 +18,7 @@ use std::io;
 
 const BAR: &str = "¦";
 
-// The line of the setting that a row's text would stand in.
+// The line of the setting that a row's text would be in.
 const LINE: u64 = 7;
 
 // A row with its line feeds.
@@ -40,7 +40,7 @@ fn add_number(alloc: Global, said: &mut Bytes, name: &[u8], number: u64) -> Resu
 fn add_refusal(alloc: Global, said: &mut Bytes, refused: &Refused) -> Result<(), NoMemory> {
     let line = refused.line(alloc)?;
     match line.as_slice() {
-        [front @ .., b'\n'] => add_field(said, &[front]),
+        [prefix @ .., b'\n'] => add_field(said, &[prefix]),
         _ => add_field(said, &[]),
     }
 }
@@ -203,20 +203,20 @@ fn say_of(
     alloc: Global,
     said: &mut Bytes,
     files: &List<Pair>,
-    front: &str,
+    prefix: &str,
     text: &str,
 ) -> Result<(), NoMemory> {
-    if let Some(key) = front.strip_prefix("find -f ") {
+    if let Some(key) = prefix.strip_prefix("find -f ") {
         return say_find(alloc, said, files, false, key, text);
     }
-    if let Some(key) = front.strip_prefix("find ") {
+    if let Some(key) = prefix.strip_prefix("find ") {
         return say_find(alloc, said, files, true, key, text);
     }
-    if let Some(number) = front.strip_prefix("failing ") {
+    if let Some(number) = prefix.strip_prefix("failing ") {
         let number = number.parse::<u64>().unwrap_or(0);
         return say_open(alloc, said, files, number, text);
     }
-    match front {
+    match prefix {
         "spec" => say_spec(alloc, said, text),
         "results" => say_results(alloc, said, files, text),
         "open" => say_open(alloc, said, files, 0, text),
@@ -224,25 +224,25 @@ fn say_of(
     }
 }
 
-// The row, as it should stand.
-fn row_of(alloc: Global, files: &List<Pair>, front: &str, text: &str) -> Result<Bytes, NoMemory> {
-    let mut said = Bytes::from_slice(alloc, front.as_bytes())?;
+// The row, as it should be.
+fn row_of(alloc: Global, files: &List<Pair>, prefix: &str, text: &str) -> Result<Bytes, NoMemory> {
+    let mut said = Bytes::from_slice(alloc, prefix.as_bytes())?;
     add_field(&mut said, &[text.as_bytes()])?;
-    say_of(alloc, &mut said, files, front, text)?;
+    say_of(alloc, &mut said, files, prefix, text)?;
     Ok(said)
 }
 
-// Prints a row that is not as it should stand.
+// Prints a row that is not as it should be.
 fn look_at(
     rt: &HostRuntime,
     alloc: Global,
     files: &List<Pair>,
-    front: &str,
+    prefix: &str,
     behind: &str,
     row: &str,
 ) -> io::Result<()> {
     let (text, _) = behind.split_once('¦').unwrap_or((behind, ""));
-    match row_of(alloc, files, front, text) {
+    match row_of(alloc, files, prefix, text) {
         Ok(said) => {
             if said.as_slice() != row.as_bytes() {
                 println!(rt; "not so: {row}")?;
@@ -271,15 +271,15 @@ fn main(rt: HostRuntime) -> io::Result<()> {
         }
         let row = decoded(alloc, line.as_str())?;
         let row = row.as_str();
-        let (front, behind) = row.split_once('¦').unwrap_or((row, ""));
-        match front.strip_prefix("file ") {
+        let (prefix, behind) = row.split_once('¦').unwrap_or((row, ""));
+        match prefix.strip_prefix("file ") {
             Some(name) => {
                 if let Err(NoMemory) = add_file(alloc, &mut files, name, behind) {
                     println!(rt; "no memory: {row}")?;
                 }
             }
             None => {
-                look_at(&rt, alloc, &files, front, behind, row)?;
+                look_at(&rt, alloc, &files, prefix, behind, row)?;
                 rows = rows.saturating_add(1);
             }
         }

@@ -1,6 +1,6 @@
 //! Says what the settings of a main.cf say, of the rows of the file `rows`. bench/expansion.py runs it on a row of its own.
 //!
-//! The text of a row is a main.cf, and its front asks what the value of a parameter says (`value NAME`), the line of its last
+//! The text of a row is a main.cf, and its prefix asks what the value of a parameter says (`value NAME`), the line of its last
 //! setting (`line NAME`, and `behind NAME` where `mail_name = b` counts after the text), the line and the items of a class
 //! (`class NAME`), what is read of a parameter whatever there is of others (`known NAME`, and `known` the first refusal of the
 //! classes), the table texts (`tables`), how many parameters have their places (`places`), or the lengths of the values of so many
@@ -27,10 +27,10 @@ impl Says for Asked {
         &mut self,
         alloc: Global,
         said: &mut Bytes,
-        front: &str,
+        prefix: &str,
         text: &str,
     ) -> Result<(), NoMemory> {
-        let (kind, name) = front.split_once(' ').unwrap_or((front, ""));
+        let (kind, name) = prefix.split_once(' ').unwrap_or((prefix, ""));
         let text = text.as_bytes();
         match kind {
             "value" => asked(alloc, said, text, 0, Question::Value(name.as_bytes())),

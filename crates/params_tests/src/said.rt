@@ -99,7 +99,7 @@ fn add_class(
     }
 }
 
-// Adds the table texts, each behind its line.
+// Adds the table texts, each after its line.
 fn add_tables(alloc: Global, said: &mut Bytes, specs: &Specs) -> Result<(), NoMemory> {
     for n in 0..specs.len() {
         if n < specs.len() {

@@ -26,7 +26,7 @@ literal_whole : (inside rest : List ℕ) → list_all is_literal_byte inside ≡
 literal_whole inside rest all =
     rw (run is_literal_byte inside (93 ∷ rest) all bracket_ends, get_or_at inside 93 rest 0 (length inside) refl)
 
--- the bytes of a name end where no plain byte stands
+-- the bytes of a name end where no plain byte is
 pub name_ends : (rest : List ℕ) → is_plain_byte (get_or rest 0 0) ≡ false → is_name_byte (get_or rest 0 0) ≡ false
 name_ends rest ends = false_from_ne_true _ (λ h. cc (ends, name_is_plain _ h))
 
@@ -41,7 +41,7 @@ domain_complete domain rest (literal inside all is limit) ends =
     let n = literal_whole inside rest all ∙ len in
     ap (λ text. domain_len (text ++ rest)) is ∙ rw (whole, n, le-leb (length domain) 255 limit)
 
--- a domain stands at the head of a text
+-- a domain is at the head of a text
 pub record DomainAt (text : List ℕ) (n : ℕ) : Type 0 where
   pub within : n ≤ length text
   pub domain : IsDomain (take n text)

@@ -56,16 +56,16 @@ quoted_whole content local rest is =
     rw (whole, closes is rest) (simp length-append (omega arith))
 
 -- plain bytes up to the last at sign among them
-plain_before : (local front tail : List ℕ) → list_all is_plain_byte local ≡ true → list_all is_plain_byte front ≡ true → list_all is_other front ≡ true
-    → is_plain_byte (get_or tail 0 0) ≡ false → plain_len (local ++ 64 ∷ (front ++ tail)) ≡ length local
+plain_before : (local prefix tail : List ℕ) → list_all is_plain_byte local ≡ true → list_all is_plain_byte prefix ≡ true → list_all is_other prefix ≡ true
+    → is_plain_byte (get_or tail 0 0) ≡ false → plain_len (local ++ 64 ∷ (prefix ++ tail)) ≡ length local
 unfolding plain_len
-plain_before local front tail all more none ends =
-    let whole : local ++ 64 ∷ (front ++ tail) ≡ (local ++ 64 ∷ front) ++ tail = sym (append_assoc local (64 ∷ front) tail) in
-    let passes : list_all is_plain_byte (local ++ 64 ∷ front) ≡ true =
-    rw (list_all-append is_plain_byte local (64 ∷ front), all, at_is_plain, more) in
-    let at : behind_at (local ++ 64 ∷ front) ≡ length local + 1 = rw (behind_at-append local (64 ∷ front), none_at front none) in
+plain_before local prefix tail all more none ends =
+    let whole : local ++ 64 ∷ (prefix ++ tail) ≡ (local ++ 64 ∷ prefix) ++ tail = sym (append_assoc local (64 ∷ prefix) tail) in
+    let passes : list_all is_plain_byte (local ++ 64 ∷ prefix) ≡ true =
+    rw (list_all-append is_plain_byte local (64 ∷ prefix), all, at_is_plain, more) in
+    let at : behind_at (local ++ 64 ∷ prefix) ≡ length local + 1 = rw (behind_at-append local (64 ∷ prefix), none_at prefix none) in
     let some : eqb (length local + 1) 0 ≡ false = ne_eqb _ 0 (λ e. omega (arith, e)) in
-    rw (whole, run is_plain_byte (local ++ 64 ∷ front) tail passes ends, take_at (local ++ 64 ∷ front) tail _ refl, at, some) (omega arith)
+    rw (whole, run is_plain_byte (local ++ 64 ∷ prefix) tail passes ends, take_at (local ++ 64 ∷ prefix) tail _ refl, at, some) (omega arith)
 
 plain_alone : (local rest : List ℕ) → list_all is_plain_byte local ≡ true → list_all is_other local ≡ true
     → is_plain_byte (get_or rest 0 0) ≡ false → plain_len (local ++ rest) ≡ length local
@@ -85,7 +85,7 @@ unquoted_len : (local rest : List ℕ) → 0 < length local → list_all is_plai
 unfolding local_len
 unquoted_len local rest some all = rw (no_quote local rest some all)
 
--- a local part in front of a domain
+-- a local part before a domain
 pub local_before : (spelled local domain rest : List ℕ) → IsLocalPart is_plain_byte spelled local → IsDomain domain → is_plain_byte (get_or rest 0 0) ≡ false
     → local_len (spelled ++ 64 ∷ (domain ++ rest)) ≡ length spelled
 local_before spelled local domain rest (plain some all is) domain_is ends =
@@ -100,7 +100,7 @@ local_alone spelled local rest (plain some all is) ends =
     rw is (unquoted_len local rest some passes ∙ plain_alone local rest passes (all_weaker is_lone_byte is_other lone_is_no_at local all) ends)
 local_alone spelled local rest (quoted content inside is) ends = rw is (quoted_whole content local rest inside)
 
--- a local part stands at the head of a text, and alone where no at sign is behind it
+-- a local part is at the head of a text, and alone where no at sign is after it
 pub record LocalAt (text : List ℕ) (n : ℕ) : Type 0 where
   pub within : n ≤ length text
   pub before : IsLocalPart is_plain_byte (take n text) (local_of (take n text))

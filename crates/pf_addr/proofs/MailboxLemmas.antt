@@ -87,7 +87,7 @@ mailbox_complete spelled rest a (with_domain local local_is domain_is is) ends =
     rw (is, append_assoc local (64 ∷ a.domain) rest) (found_before local rest a local_is domain_is ends)
 mailbox_complete spelled rest a (alone local_is none) ends = found_alone spelled rest a local_is none ends
 
--- a mailbox stands at the head of a text
+-- a mailbox is at the head of a text
 pub record MailboxAt (text : List ℕ) (m : Mailbox) : Type 0 where
   pub within : mailbox_len m ≤ length text
   pub is : IsMailbox (take (mailbox_len m) text) (address_of text m)
@@ -122,45 +122,45 @@ mailbox_sound text m h =
     rw (← e) (record { within = local.within; is = alone (local.alone other) refl })))
 
 -- a mailbox begins with no route
-plain_front : (x : ℕ) (local rest : List ℕ) → list_all is_plain_byte (x ∷ local) ≡ true → eqb x 64 ≡ false → route_len ((x ∷ local) ++ rest) ≡ 0
-plain_front x local rest all other =
+plain_prefix : (x : ℕ) (local rest : List ℕ) → list_all is_plain_byte (x ∷ local) ≡ true → eqb x 64 ≡ false → route_len ((x ∷ local) ++ rest) ≡ 0
+plain_prefix x local rest all other =
     let first : list_all is_plain_byte (x ∷ []) ≡ true = and_from (is_plain_byte x) true (and_parts (is_plain_byte x) (list_all is_plain_byte local) all).0 refl in
     no_route (x ∷ []) (local ++ rest) (all_weaker is_plain_byte _ plain_no_colon (x ∷ []) first) (all_weaker is_plain_byte _ plain_no_comma (x ∷ []) first)
     (λ more. no_at_first x more other)
 
-at_front : (local rest : List ℕ) → list_all is_plain_byte local ≡ true → route_len ((64 ∷ local) ++ 64 ∷ rest) ≡ 0
-at_front local rest all =
-    let front : list_all is_plain_byte (64 ∷ local ++ 64 ∷ []) ≡ true = rw (at_is_plain, list_all-append is_plain_byte local (64 ∷ []), all, at_is_plain) in
+at_prefix : (local rest : List ℕ) → list_all is_plain_byte local ≡ true → route_len ((64 ∷ local) ++ 64 ∷ rest) ≡ 0
+at_prefix local rest all =
+    let prefix : list_all is_plain_byte (64 ∷ local ++ 64 ∷ []) ≡ true = rw (at_is_plain, list_all-append is_plain_byte local (64 ∷ []), all, at_is_plain) in
     let whole : (64 ∷ local) ++ 64 ∷ rest ≡ (64 ∷ local ++ 64 ∷ []) ++ rest = sym (append_assoc (64 ∷ local) (64 ∷ []) rest) in
-    rw whole (no_route (64 ∷ local ++ 64 ∷ []) rest (all_weaker is_plain_byte _ plain_no_colon (64 ∷ local ++ 64 ∷ []) front)
-    (all_weaker is_plain_byte _ plain_no_comma (64 ∷ local ++ 64 ∷ []) front)
+    rw whole (no_route (64 ∷ local ++ 64 ∷ []) rest (all_weaker is_plain_byte _ plain_no_colon (64 ∷ local ++ 64 ∷ []) prefix)
+    (all_weaker is_plain_byte _ plain_no_comma (64 ∷ local ++ 64 ∷ []) prefix)
     (λ more. rw (append_assoc local (64 ∷ []) more) (at_within local more)))
 
-before_front : (local rest : List ℕ) → 0 < length local → list_all is_plain_byte local ≡ true → route_len (local ++ 64 ∷ rest) ≡ 0
-before_front [] rest some all = absurd (omega arith)
-before_front (x ∷ local) rest some all =
+before_prefix : (local rest : List ℕ) → 0 < length local → list_all is_plain_byte local ≡ true → route_len (local ++ 64 ∷ rest) ≡ 0
+before_prefix [] rest some all = absurd (omega arith)
+before_prefix (x ∷ local) rest some all =
     either_way (eqb x 64)
-    (λ at. let e = eqb-true x 64 at in rw e (at_front local rest ((and_parts (is_plain_byte x) (list_all is_plain_byte local) all).1)))
-    (λ other. plain_front x local (64 ∷ rest) all other)
+    (λ at. let e = eqb-true x 64 at in rw e (at_prefix local rest ((and_parts (is_plain_byte x) (list_all is_plain_byte local) all).1)))
+    (λ other. plain_prefix x local (64 ∷ rest) all other)
 
-alone_front : (local rest : List ℕ) → 0 < length local → list_all is_lone_byte local ≡ true → route_len (local ++ rest) ≡ 0
-alone_front [] rest some all = absurd (omega arith)
-alone_front (x ∷ local) rest some all =
-    plain_front x local rest (all_weaker is_lone_byte is_plain_byte lone_is_plain (x ∷ local) all)
+alone_prefix : (local rest : List ℕ) → 0 < length local → list_all is_lone_byte local ≡ true → route_len (local ++ rest) ≡ 0
+alone_prefix [] rest some all = absurd (omega arith)
+alone_prefix (x ∷ local) rest some all =
+    plain_prefix x local rest (all_weaker is_lone_byte is_plain_byte lone_is_plain (x ∷ local) all)
     (not-true (eqb x 64) (lone_is_no_at x (and_parts (is_lone_byte x) (list_all is_lone_byte local) all).0))
 
-quoted_front : (content rest : List ℕ) → route_len ((34 ∷ content) ++ rest) ≡ 0
-quoted_front content rest = no_route (34 ∷ []) (content ++ rest) refl refl (λ more. no_at_first 34 more refl)
+quoted_prefix : (content rest : List ℕ) → route_len ((34 ∷ content) ++ rest) ≡ 0
+quoted_prefix content rest = no_route (34 ∷ []) (content ++ rest) refl refl (λ more. no_at_first 34 more refl)
 
 pub mailbox_no_route : (spelled rest : List ℕ) (a : Address) → IsMailbox spelled a → route_len (spelled ++ rest) ≡ 0
 mailbox_no_route spelled rest a (with_domain local (plain some all same) domain_is is) =
-    rw (is, same, append_assoc a.local (64 ∷ a.domain) rest) (before_front a.local (a.domain ++ rest) some all)
+    rw (is, same, append_assoc a.local (64 ∷ a.domain) rest) (before_prefix a.local (a.domain ++ rest) some all)
 mailbox_no_route spelled rest a (with_domain local (quoted content inside same) domain_is is) =
     rw (is, same, append_assoc (34 ∷ content ++ 34 ∷ []) (64 ∷ a.domain) rest, append_assoc content (34 ∷ []) ((64 ∷ a.domain) ++ rest))
-    (quoted_front content (34 ∷ ((64 ∷ a.domain) ++ rest)))
-mailbox_no_route spelled rest a (alone (plain some all same) no_domain) = rw same (alone_front a.local rest some all)
+    (quoted_prefix content (34 ∷ ((64 ∷ a.domain) ++ rest)))
+mailbox_no_route spelled rest a (alone (plain some all same) no_domain) = rw same (alone_prefix a.local rest some all)
 mailbox_no_route spelled rest a (alone (quoted content inside same) no_domain) =
-    rw (same, append_assoc content (34 ∷ []) rest) (quoted_front content (34 ∷ rest))
+    rw (same, append_assoc content (34 ∷ []) rest) (quoted_prefix content (34 ∷ rest))
 
 -- a mailbox begins with a plain byte or a quote
 pub mailbox_first : (spelled rest : List ℕ) (a : Address) (c : ℕ) → is_plain_byte c ≡ false → eqb 34 c ≡ false → IsMailbox spelled a

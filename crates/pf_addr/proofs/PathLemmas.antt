@@ -18,7 +18,7 @@ use Rattle.pf_addr.proofs.MailboxLemmas.{drop_next, mailbox_complete, mailbox_fi
 use Rattle.pf_addr.proofs.RouteLemmas.{route_complete, route_first, route_sound}
 use Rattle.pf_addr.proofs.Runs.{run, run_passes}
 
--- a path stands at the head of a text, and ends there
+-- a path is at the head of a text, and ends there
 record PathAt (text : List ℕ) (read : PathRead) : Type 0 where
   pub within : read.end ≤ length text
   pub is : IsPath (take read.end text) (drop read.end text) read.path
@@ -33,12 +33,12 @@ bare_sound text read h =
     rw (← e) (record { within = there.within; is = bare (address_of text m) there.is ends refl }))
     (λ goes_on. cc (rw (is, goes_on) at h)))
 
--- what stands behind the first bracket of a path, up to there
+-- what is after the first bracket of a path, up to there
 record InsideAt (text : List ℕ) (read : PathRead) : Type 0 where
   pub within : read.end ≤ length text
   pub is : (rest : List ℕ) → IsPath (60 ∷ take read.end text) rest read.path
 
--- a mailbox and the bracket behind it
+-- a mailbox and the bracket after it
 record ClosedAt (text : List ℕ) (read : PathRead) : Type 0 where
   pub within : read.end ≤ length text
   pub is : (route rest : List ℕ) → IsRoute route → IsPath (60 ∷ route ++ take read.end text) rest read.path
@@ -106,7 +106,7 @@ reading_sound text read h =
     let whole : text ≡ take n text ++ take found.end (drop n text) ++ drop found.end (drop n text) =
     sym (append_assoc (take n text) (take found.end (drop n text)) (drop found.end (drop n text))
     ∙ ap (λ l. take n text ++ l) (take-append-drop found.end (drop n text)) ∙ take-append-drop n text) in
-    let front = length-take-le n text (prefix_len-le-length is_space text) in
+    let prefix = length-take-le n text (prefix_len-le-length is_space text) in
     let back = length-take-le found.end (drop n text) there.within in
     rw (← e) (record {
       space = take n text;
@@ -115,10 +115,10 @@ reading_sound text read h =
       whole = whole;
       blank = run_passes is_space text n (omega arith);
       spells = there.is;
-      end = omega (arith, front, back);
+      end = omega (arith, prefix, back);
     }))
 
--- no plain byte stands where a path without brackets ends
+-- no plain byte is where a path without brackets ends
 end_is_not_plain : (rest : List ℕ) → is_end rest ≡ true → is_plain_byte (get_or rest 0 0) ≡ false
 unfolding is_plain_byte
 end_is_not_plain [] h = refl
@@ -181,7 +181,7 @@ path_complete text rest path (bracketed route spelled a route_is mailbox_is is s
 path_complete text rest path (bare a is ends same) =
     rw (mailbox_first text rest a 60 bracket_is_not_plain refl is, bare_complete text rest a is ends, same)
 
--- no space stands at the head of a path
+-- no space is at the head of a path
 path_first : (text rest : List ℕ) (path : Path) → IsPath text rest path → is_space (get_or (text ++ rest) 0 0) ≡ false
 path_first text rest path (null is same) = rw is
 path_first text rest path (bracketed route spelled a route_is mailbox_is is same) = rw is

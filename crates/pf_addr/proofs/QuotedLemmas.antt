@@ -9,7 +9,7 @@ use Rattle.pf_addr.specs.Printed.{escaped}
 use Rattle.pf_addr.specs.Clauses.Reading.{closing_quote, unquoted}
 use Rattle.pf_addr.proofs.Cases.{either_way, either_option}
 
--- a quoted string ends at the quote behind its content
+-- a quoted string ends at the quote after its content
 pub closes : {content local : List ℕ} → IsContent content local → (rest : List ℕ) → closing_quote false (content ++ 34 ∷ rest) ≡ Some (length content)
 closes none rest = refl
 closes (byte b other more) rest =
@@ -23,12 +23,12 @@ means none = refl
 means (byte b other more) = let parts = or_parts (eqb b 34) (eqb b 92) other in rw parts.1 (ap (λ bytes. b ∷ bytes) (means more))
 means (pair b more) = ap (λ bytes. b ∷ bytes) (means more)
 
--- content behind a backslash or not
+-- content after a backslash or not
 abbrev IsContentBehind : Bool → List ℕ → List ℕ → Type 0
 IsContentBehind true text local = IsContent (92 ∷ text) local
 IsContentBehind false text local = IsContent text local
 
--- the first quote that no backslash takes stands there, and content in front of it
+-- the first quote that no backslash takes is there, and content before it
 pub record ClosesAt (taken : Bool) (text : List ℕ) (n : ℕ) : Type 0 where
   pub within : n < length text
   pub quote : get_or text n 0 ≡ 34

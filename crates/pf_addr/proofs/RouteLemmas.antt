@@ -81,7 +81,7 @@ route_first (x ∷ xs) rest h =
     let all = split_bytes (x ∷ xs) (parts_bytes (slice_split is_comma (x ∷ xs)) h) in
     other is_route_byte 62 x close_fails (and_parts (is_route_byte x) (list_all is_route_byte xs) all).0
 
--- what stands before the first such byte
+-- what is before the first such byte
 before_at : (p : ℕ → Bool) (xs ys : List ℕ) (y : ℕ) → list_all (λ b. not (p b)) xs ≡ true → p y ≡ true → before_first p (xs ++ y ∷ ys) ≡ xs
 before_at p xs ys y all is =
     let n = run (λ b. not (p b)) xs (y ∷ ys) all (ap not is) in
@@ -94,7 +94,7 @@ route_complete route rest is =
     let lt : ltb (length route) (length (route ++ 58 ∷ rest)) ≡ true = lt-ltb _ _ (simp length-append (omega arith)) in
     rw (before, lt, is)
 
--- a route stands at the head of a text, or none
+-- a route is at the head of a text, or none
 pub record RouteAt (text : List ℕ) (n : ℕ) : Type 0 where
   pub within : n ≤ length text
   pub route : IsRoute (take n text)
@@ -121,10 +121,10 @@ route_sound text =
     (λ no. rw no (record { within = omega arith; route = none refl }))
 
 -- a list of parts whose first one begins so
-record Begins (front : List ℕ) (parts : List (List ℕ)) : Type 0 where
+record Begins (prefix : List ℕ) (parts : List (List ℕ)) : Type 0 where
   pub rest : List ℕ
   pub others : List (List ℕ)
-  pub is : parts ≡ (front ++ rest) ∷ others
+  pub is : parts ≡ (prefix ++ rest) ∷ others
 
 split_some : (xs : List ℕ) → Begins [] (slice_split is_comma xs)
 split_some [] = record { rest = []; others = []; is = refl }
@@ -133,36 +133,36 @@ split_some (x ∷ xs) =
     (λ comma. record { rest = []; others = slice_split is_comma xs; is = rw comma })
     (λ no_comma. let next = split_some xs in record { rest = x ∷ next.rest; others = next.others; is = rw (no_comma, next.is) })
 
-more_begins : (x : ℕ) (front : List ℕ) (parts : List (List ℕ)) → eqb x 44 ≡ false → Begins front parts
-    → Begins (x ∷ front) (if eqb x 44 then [] ∷ parts else onto_first x parts)
-more_begins x front parts no_comma b =
+more_begins : (x : ℕ) (prefix : List ℕ) (parts : List (List ℕ)) → eqb x 44 ≡ false → Begins prefix parts
+    → Begins (x ∷ prefix) (if eqb x 44 then [] ∷ parts else onto_first x parts)
+more_begins x prefix parts no_comma b =
     record { rest = b.rest; others = b.others; is = rw no_comma (ap (onto_first x) b.is) }
 
-split_begins : (front xs : List ℕ) → list_all (λ b. not (is_comma b)) front ≡ true → Begins front (slice_split is_comma (front ++ xs))
+split_begins : (prefix xs : List ℕ) → list_all (λ b. not (is_comma b)) prefix ≡ true → Begins prefix (slice_split is_comma (prefix ++ xs))
 split_begins [] xs all = split_some xs
-split_begins (x ∷ front) xs all =
-    let parts = and_parts (not (is_comma x)) (list_all (λ b. not (is_comma b)) front) all in
-    more_begins x front (slice_split is_comma (front ++ xs)) (not-true (eqb x 44) parts.0) (split_begins front xs parts.1)
+split_begins (x ∷ prefix) xs all =
+    let parts = and_parts (not (is_comma x)) (list_all (λ b. not (is_comma b)) prefix) all in
+    more_begins x prefix (slice_split is_comma (prefix ++ xs)) (not-true (eqb x 44) parts.0) (split_begins prefix xs parts.1)
 
-before_more : (p : ℕ → Bool) (front xs : List ℕ) → list_all (λ b. not (p b)) front ≡ true → before_first p (front ++ xs) ≡ front ++ before_first p xs
+before_more : (p : ℕ → Bool) (prefix xs : List ℕ) → list_all (λ b. not (p b)) prefix ≡ true → before_first p (prefix ++ xs) ≡ prefix ++ before_first p xs
 before_more p [] xs all = refl
-before_more p (x ∷ front) xs all =
-    let parts = and_parts (not (p x)) (list_all (λ b. not (p b)) front) all in
-    let n = position_or_len p (front ++ xs) in
+before_more p (x ∷ prefix) xs all =
+    let parts = and_parts (not (p x)) (list_all (λ b. not (p b)) prefix) all in
+    let n = position_or_len p (prefix ++ xs) in
     let e : 1 + n ≡ suc n = omega arith in
-    rw (not-true (p x) parts.0, e) (ap (λ l. x ∷ l) (before_more p front xs parts.1))
+    rw (not-true (p x) parts.0, e) (ap (λ l. x ∷ l) (before_more p prefix xs parts.1))
 
--- a text whose front has no colon and no comma and begins no at-domain begins with no route
-pub no_route : (front xs : List ℕ) → list_all (λ b. not (is_colon b)) front ≡ true → list_all (λ b. not (is_comma b)) front ≡ true
-    → ((rest : List ℕ) → is_at_domain (front ++ rest) ≡ false) → route_len (front ++ xs) ≡ 0
+-- a text whose prefix has no colon and no comma and begins no at-domain begins with no route
+pub no_route : (prefix xs : List ℕ) → list_all (λ b. not (is_colon b)) prefix ≡ true → list_all (λ b. not (is_comma b)) prefix ≡ true
+    → ((rest : List ℕ) → is_at_domain (prefix ++ rest) ≡ false) → route_len (prefix ++ xs) ≡ 0
 unfolding route_len is_route
-no_route front xs colon comma never =
-    let before = before_more is_colon front xs colon in
-    let parts = split_begins front (before_first is_colon xs) comma in
-    let fails : list_all is_at_domain (slice_split is_comma (before_first is_colon (front ++ xs))) ≡ false =
+no_route prefix xs colon comma never =
+    let before = before_more is_colon prefix xs colon in
+    let parts = split_begins prefix (before_first is_colon xs) comma in
+    let fails : list_all is_at_domain (slice_split is_comma (before_first is_colon (prefix ++ xs))) ≡ false =
     rw (before, parts.is, never parts.rest) in
-    let both = and_right (nat_lt (length (before_first is_colon (front ++ xs))) (length (front ++ xs)))
-    (list_all is_at_domain (slice_split is_comma (before_first is_colon (front ++ xs)))) fails in
+    let both = and_right (nat_lt (length (before_first is_colon (prefix ++ xs))) (length (prefix ++ xs)))
+    (list_all is_at_domain (slice_split is_comma (before_first is_colon (prefix ++ xs)))) fails in
     rw both
 
 -- no at-domain begins with another byte, or has two at signs

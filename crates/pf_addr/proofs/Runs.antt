@@ -14,7 +14,7 @@ run p (x ∷ xs) ys all ends =
     let parts = and_parts (p x) (list_all p xs) all in
     rw (parts.0, run p xs ys parts.1 ends) (omega arith)
 
--- each byte in front of a place within a run passes
+-- each byte before a place within a run passes
 pub run_passes : (p : ℕ → Bool) (xs : List ℕ) (n : ℕ) → n ≤ prefix_len p xs → list_all p (take n xs) ≡ true
 run_passes p xs n within =
     let long = prefix_len-le-length p xs in
@@ -23,7 +23,7 @@ run_passes p xs n within =
     let below : k < n = omega (arith, len) in
     rw (get_or-take n xs k d below) (prefix_len_passes p xs k d (omega (arith, below))))
 
--- the byte behind a run fails, or there is none
+-- the byte after a run fails, or there is none
 pub run_stops : (p : ℕ → Bool) (xs : List ℕ) → p 0 ≡ false → p (get_or xs (prefix_len p xs) 0) ≡ false
 run_stops p xs none =
     ⊎_elim (λ lt. prefix_len_stops p xs 0 lt) (λ past. rw (get_or_past xs (prefix_len p xs) 0 past) none) (cases_lt (prefix_len p xs) (length xs))

@@ -14,7 +14,7 @@ use Rattle.pf_addr.specs.declared.address.PathFault.{PathFault}
 unfoldable pub is_name_byte : ℕ → Bool
 is_name_byte b = is_ascii_alphanumeric b || b == ascii.hyphen || b == ascii.underscore || b == ascii.dot
 
--- address-literal: what may stand between its brackets; no form of it is looked for
+-- address-literal: what may be between its brackets; no form of it is looked for
 unfoldable pub is_literal_byte : ℕ → Bool
 is_literal_byte b = not (b == ascii.right_bracket) && not (b == ascii.at_sign)
 
@@ -36,7 +36,7 @@ pub data IsDomain (text : List ℕ) : Type 0 where
   literal : (inside : List ℕ) → list_all is_literal_byte inside ≡ true → text ≡ ascii.left_bracket ∷ inside ++ ascii.right_bracket ∷ [] →
       length text ≤ 255 → IsDomain text
 
--- *QcontentSMTP, as it is spelled and what it means: a backslash takes the next byte, and a quote stands only behind one
+-- *QcontentSMTP, as it is spelled and what it means: a backslash takes the next byte, and a quote stands only after one
 pub data IsContent : List ℕ → List ℕ → Type 0 where
   none : IsContent [] []
   byte : {text local : List ℕ} (b : ℕ) → (b == ascii.double_quote || b == ascii.backslash) ≡ false → IsContent text local →
@@ -49,7 +49,7 @@ pub data IsLocalPart (is_byte : ℕ → Bool) (text local : List ℕ) : Type 0 w
   quoted : (content : List ℕ) → IsContent content local → text ≡ ascii.double_quote ∷ content ++ ascii.double_quote ∷ [] →
       IsLocalPart is_byte text local
 
--- Mailbox = Local-part "@" ( Domain / address-literal ); the local part may also stand alone, as postmaster's does
+-- Mailbox = Local-part "@" ( Domain / address-literal ); the local part may also are alone, as postmaster's does
 pub data IsMailbox (text : List ℕ) (address : Address) : Type 0 where
   with_domain : (local : List ℕ) → IsLocalPart is_plain_byte local address.local → IsDomain address.domain →
       text ≡ local ++ ascii.at_sign ∷ address.domain
@@ -75,7 +75,7 @@ abbrev pub is_end : List ℕ → Bool
 is_end [] = true
 is_end (b ∷ rest) = is_space b
 
--- Reverse-path = Path / "<>", Path = "<" [ A-d-l ":" ] Mailbox ">", in front of a rest; a mailbox without brackets is a path too
+-- Reverse-path = Path / "<>", Path = "<" [ A-d-l ":" ] Mailbox ">", before a rest; a mailbox without brackets is a path too
 pub data IsPath (text rest : List ℕ) (path : Path) : Type 0 where
   null : text ≡ codes "<>" → path ≡ Null → IsPath text rest path
   bracketed : (route mailbox : List ℕ) (address : Address) → IsRoute route → IsMailbox mailbox address →

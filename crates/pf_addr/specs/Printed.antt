@@ -12,7 +12,7 @@ use Rattle.pf_base.specs.Text.Ascii as ascii
 unfoldable pub is_atom_byte : ℕ → Bool
 is_atom_byte b = is_ascii_alphanumeric b || list_any (λ other. other == b) (codes ".!#$%&'*+-/=?^_`{|}~")
 
--- a quote and a backslash stand behind a backslash
+-- a quote and a backslash are after a backslash
 unfoldable pub escaped : ℕ → List ℕ
 escaped b = if b == ascii.double_quote || b == ascii.backslash then ascii.backslash ∷ b ∷ [] else b ∷ []
 

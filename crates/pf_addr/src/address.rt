@@ -12,7 +12,7 @@ pub struct Address {
     pub domain: Bytes,
 }
 
-/// A path (RFC 5321, 4.1.2). The source route that may stand in it is no part of it (RFC 5321, appendix C).
+/// A path (RFC 5321, 4.1.2). The source route that may be in it is no part of it (RFC 5321, appendix C).
 #[derive(Debug, PartialEq, Eq, Drop)]
 pub enum Path {
     /// `<>`, the sender of messages that nothing is to be returned for.
@@ -21,7 +21,7 @@ pub enum Path {
     To(Address),
 }
 
-/// A path that a text begins with, and where it ends: the number of bytes up to its last, space in front of it included.
+/// A path that a text begins with, and where it ends: the number of bytes up to its last, space before it included.
 #[derive(Debug, PartialEq, Eq, Drop)]
 pub struct PathRead {
     pub path: Path,

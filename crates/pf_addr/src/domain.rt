@@ -25,7 +25,7 @@ fn inside_len(text: &[u8]) -> usize
     text.iter().take_while(|b| is_literal_byte(**b)).count()
 }
 
-// The length of the literal whose first bracket stands in front of a text.
+// The length of the literal whose first bracket is before a text.
 fn literal_len(inside: &[u8]) -> usize
     ensures within { result ≤ length inside.now + 1 }
     ensures count { result ≡ reading.literal_len_of inside.now (prefix_len grammar.is_literal_byte inside.now) }

@@ -17,7 +17,7 @@ fn plain_bytes(text: &[u8]) -> usize
     text.iter().take_while(|b| is_plain_byte(**b)).count()
 }
 
-// The place behind the last at sign, or 0 where there is none.
+// The place after the last at sign, or 0 where there is none.
 fn behind_at(text: &[u8]) -> usize
     ensures within { result ≤ length text.now }
     ensures place { result ≡ reading.behind_at text.now }
@@ -40,7 +40,7 @@ fn plain_len(text: &[u8]) -> usize
     if at == 0 { end } else { at - 1 }
 }
 
-// The length of the quoted string whose first quote stands in front of a text.
+// The length of the quoted string whose first quote is before a text.
 fn quoted_len(behind: &[u8]) -> usize
     ensures within { result ≤ length behind.now + 1 }
     ensures count { result ≡ reading.quoted_len_of (reading.closing_quote false behind.now) }

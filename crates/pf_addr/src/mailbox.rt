@@ -31,7 +31,7 @@ pub(crate) fn mailbox_in(text: &[u8]) -> Option<Mailbox>
     }
 }
 
-// A mailbox whose local part has a domain behind it.
+// A mailbox whose local part has a domain after it.
 fn with_domain(local: usize, domain: usize) -> Option<Mailbox>
     ensures { result ≡ reading.with_domain local domain }
 {

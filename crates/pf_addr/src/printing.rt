@@ -26,7 +26,7 @@ fn push_content(local: &[u8], text: &mut Bytes) -> Result<(), NoMemory>
     Ok(())
 }
 
-// Adds a byte, behind a backslash where it needs one.
+// Adds a byte, after a backslash where it needs one.
 #[tactic(auto, unfolding(crate::specs::Printed::escaped))]
 fn push_escaped(b: u8, text: &mut Bytes) -> Result<(), NoMemory>
     ensures { OnOk result (text.new ≡ text.old ++ spec.escaped b) }
@@ -62,7 +62,7 @@ fn push_domain(domain: &[u8], text: &mut Bytes) -> Result<(), NoMemory>
 }
 
 /// An address as it is printed: its local part, in quotes where it is empty or has a byte that is neither an atom's nor a
-/// dot (RFC 5322, 3.2.3), and behind an at sign its domain, where there is one. What is printed is a path whose address it
+/// dot (RFC 5322, 3.2.3), and after an at sign its domain, where there is one. What is printed is a path whose address it
 /// is, if the domain is one of the grammar.
 #[tactic(auto, unfolding(crate::specs::Printed::printed))]
 pub fn print(alloc: Global, address: &Address) -> Result<Bytes, NoMemory>

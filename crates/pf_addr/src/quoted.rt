@@ -6,7 +6,7 @@ ghost use Rattle.pf_addr.specs.Clauses.Reading as reading;
 use pf_base::{Bytes, NoMemory};
 use std::alloc::Global;
 
-// Whether a byte ends a quoted string; taken says that a backslash stands in front of it.
+// Whether a byte ends a quoted string; taken says that a backslash is before it.
 fn is_closing(taken: bool, b: u8) -> bool
     ensures { result ≡ (not taken && b == ascii.double_quote) }
 {
@@ -20,7 +20,7 @@ fn takes_next(taken: bool, b: u8) -> bool
     !taken && b == b'\\'
 }
 
-// The place of the quote that closes the string whose first quote stands in front of a text.
+// The place of the quote that closes the string whose first quote is before a text.
 pub(crate) fn closing_quote(text: &[u8]) -> Option<usize>
     ensures within { IfSome result (λ n. n < length text.now) }
     ensures place { result ≡ reading.closing_quote false text.now }

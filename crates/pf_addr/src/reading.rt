@@ -50,7 +50,7 @@ fn bare(alloc: Global, text: &[u8]) -> Result<Option<PathRead>, NoMemory>
     }))
 }
 
-// A mailbox and the bracket behind it.
+// A mailbox and the bracket after it.
 #[tactic(auto, unfolding(crate::specs::Clauses::Reading::closed))]
 fn closed(alloc: Global, text: &[u8]) -> Result<Option<PathRead>, NoMemory>
     ensures within { IfOk result (λ read. IfSome read (λ r. r.end ≤ length text.now)) }
@@ -70,7 +70,7 @@ fn closed(alloc: Global, text: &[u8]) -> Result<Option<PathRead>, NoMemory>
     }))
 }
 
-// The same path, behind so many bytes.
+// The same path, after so many bytes.
 fn behind(n: usize, read: Option<PathRead>) -> Option<PathRead>
     requires { IfSome read (λ r. n + r.end < 2 ^ 64) }
     ensures { result ≡ reading.behind n read }
@@ -82,7 +82,7 @@ fn behind(n: usize, read: Option<PathRead>) -> Option<PathRead>
     })
 }
 
-// What stands behind the first bracket of a path.
+// What is after the first bracket of a path.
 #[tactic(auto, unfolding(crate::specs::Clauses::Reading::bracketed))]
 fn bracketed(alloc: Global, text: &[u8]) -> Result<Option<PathRead>, NoMemory>
     ensures within { IfOk result (λ read. IfSome read (λ r. r.end ≤ length text.now)) }
@@ -113,7 +113,7 @@ fn path_in(alloc: Global, text: &[u8]) -> Result<Option<PathRead>, NoMemory>
     }
 }
 
-// A path behind space.
+// A path after space.
 #[tactic(auto, unfolding(crate::specs::Clauses::Reading::reading))]
 fn read(alloc: Global, text: &[u8]) -> Result<Option<PathRead>, NoMemory>
     ensures { IfOk result (λ read. read ≡ reading.reading text.now) }
@@ -123,8 +123,8 @@ fn read(alloc: Global, text: &[u8]) -> Result<Option<PathRead>, NoMemory>
     Ok(behind(space, read))
 }
 
-/// The path that a text begins with, behind space, and where it ends (RFC 5321, 4.1.2): `<>`, an address alone, or in
-/// brackets, there with a source route in front of it or without. Malformed exactly where the text begins with no path.
+/// The path that a text begins with, after space, and where it ends (RFC 5321, 4.1.2): `<>`, an address alone, or in
+/// brackets, there with a source route before it or without. Malformed exactly where the text begins with no path.
 pub fn path(alloc: Global, text: &[u8]) -> Result<PathRead, PathFault>
     ensures { Unless result PathFault.NoMemory (Reads text.now) }
 {

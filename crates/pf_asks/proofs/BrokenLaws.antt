@@ -1,4 +1,4 @@
--- What want of memory broke off. Each caller's answers rest on broken_next and one law for each kind of outside call.
+-- What lack of memory broke off. Each caller's answers rest on broken_next and one law for each kind of outside call.
 use Rattle.std.proofs.Common.{◌≡◌, ℕ, false, List, Result, Ok, Err, refl, sym, ap, ◌∙◌, inl, inr}
 use Rattle.std.specs.Prelude.{MatchResult}
 use Rattle.pf_asks.proofs.LedLaws.{behind_behind, led_refl, led_same, led_trans}

@@ -4,7 +4,7 @@ use Rattle.pf_asks.specs.Heard.{◌then◌, next, nothing}
 use Rattle.pf_asks.specs.Clauses.Led.{AtMost, ByTables, Meant}
 use Rattle.pf_asks.specs.Looking.{Looked, Tables}
 use Rattle.pf_asks.specs.Questions.{Ask, Means, done, look, ◌>>=◌}
-use Rattle.pf_asks.proofs.LedLaws.{alone, meant_by, no_values, tells_meant}
+use Rattle.pf_asks.proofs.LedLaws.{alone, meant_by, no_values, knows_meant}
 
 pub at_most_done : {A : Type 0} (x : A) → AtMost 0 (done x)
 unfolding done
@@ -31,7 +31,7 @@ abbrev means_of : Tables → Means
 means_of tables = record { values = meant_by tables.held.content no_values; rows = [] }
 
 meant_alone : (tables : Tables) → Meant (alone tables) (means_of tables)
-meant_alone tables = record { values = tells_meant tables.held.content no_values; rows = tt }
+meant_alone tables = record { values = knows_meant tables.held.content no_values; rows = tt }
 
 -- at most so many lookups were made
 pub by_tables_finds : {A : Type 0} (old new : Tables) (p : Ask A) (x : A) {n : ℕ} → ByTables old new p x → AtMost n p → new.finds ≤ old.finds + n

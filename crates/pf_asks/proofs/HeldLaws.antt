@@ -25,8 +25,8 @@ both : (a b : Bool) → a ≡ true → b ≡ true → (a && b) ≡ true
 both a b first second = rw (first, second) refl
 
 -- what an object means, it means after the call too
-pub tells_kept : {C : Type 0} {old new : Option C} (meant : C) → new ≡ old → Tells old meant → Tells new meant
-tells_kept meant kept tells = subst (λ content. Tells content meant) (sym kept) tells
+pub knows_kept : {C : Type 0} {old new : Option C} (meant : C) → new ≡ old → Tells old meant → Tells new meant
+knows_kept meant kept knows = subst (λ content. Tells content meant) (sym kept) knows
 
 pub hears_nothing : {C A : Type 0} {fails : A → Bool} (held : Held C) → Hears {A = A} fails held held []
 hears_nothing held = record { kept = refl; faults = counted_none held.faults; only = λ content e. refl }
@@ -44,12 +44,12 @@ all_one : (b : Bool) → b ≡ true → (b && true) ≡ true
 all_one b e = rw e refl
 
 -- a call whose answer can be a failure only where that is heard
-pub hears_call : {C A : Type 0} {fails : A → Bool} (old : Held C) (meant : C → A) (result : A) → ((told : C) → fails (meant told) ≡ false)
-    → (told : C) → Tells old.content told → (answered : Answered fails old.content meant result)
+pub hears_call : {C A : Type 0} {fails : A → Bool} (old : Held C) (meant : C → A) (result : A) → ((known : C) → fails (meant known) ≡ false)
+    → (known : C) → Tells old.content known → (answered : Answered fails old.content meant result)
     → Hears fails old (called (fails result) old) (answered.heard ∷ [])
-hears_call {fails = fails} old meant result works told tells answered = record {
+hears_call {fails = fails} old meant result works known knows answered = record {
   kept = refl;
-  faults = rose answered.heard (answered.is told tells);
+  faults = rose answered.heard (answered.is known knows);
   only = λ content e. all_one (is_meant_or_failure fails answered.heard) (answered.only content e);
 }
   where
@@ -58,12 +58,12 @@ hears_call {fails = fails} old meant result works told tells answered = record {
     alike answer true one other = rw (one, other) refl
     alike answer false one other = rw (one, other) refl
 
-    rose : (heard : Option _) → result ≡ unwrap_or heard (meant told)
+    rose : (heard : Option _) → result ≡ unwrap_or heard (meant known)
         → counted_by (cond (fails result) 1 0) old.faults ≡ counted_by (failures fails (heard ∷ [])) old.faults
-    rose None is = rw (ap fails is ∙ works told) refl
+    rose None is = rw (ap fails is ∙ works known) refl
     rose (Some answer) is = alike answer (fails answer) (ap fails is) refl
 
--- where the object tells and the answer is no failure, it was answered as meant
+-- where the object is known and the answer is no failure, it was answered as meant
 as_meant : {A : Type 0} (fails : A → Bool) (heard : Option A) (meant result : A) → is_meant_or_failure fails heard ≡ true
     → result ≡ unwrap_or heard meant → fails result ≡ false → result ≡ meant
 as_meant fails None meant result only is works = is
@@ -74,30 +74,30 @@ pub holds_of : {C A : Type 0} {fails : A → Bool} {content : Option C} {meant :
     → Answered fails content meant result → fails result ≡ false → Holds fails content meant result
 holds_of {fails = fails} {content} {meant} {result} answered works = record {
   works = works;
-  is = λ told e. as_meant fails answered.heard (meant told) result (answered.only told e) (answered.is told (subst (λ o. Tells o told) (sym e) refl)) works;
+  is = λ known e. as_meant fails answered.heard (meant known) result (answered.only known e) (answered.is known (subst (λ o. Tells o known) (sym e) refl)) works;
 }
 
 -- and it holds after other calls too
 pub holds_kept : {C A : Type 0} {fails : A → Bool} {old new : Option C} {meant : C → A} {result : A}
     → new ≡ old → Holds fails old meant result → Holds fails new meant result
-holds_kept kept holds = record { works = holds.works; is = λ told e. holds.is told (sym kept ∙ e) }
+holds_kept kept holds = record { works = holds.works; is = λ known e. holds.is known (sym kept ∙ e) }
 
--- whoever asks again may be answered so, though no call was made: as meant where the object tells, and else by the answer that was had
+-- whoever asks again may be answered so, though no call was made: as meant where the object is known, and else by the answer that was had
 again : {C A : Type 0} (fails : A → Bool) (content : Option C) (faults : ℕ) (meant : C → A) (result : A)
     → Holds fails content meant result
     → (heard : Option A) × Hears fails (record { content = content; faults = faults }) (record { content = content; faults = faults }) (heard ∷ [])
-    × ((told : C) → Tells content told → result ≡ unwrap_or heard (meant told))
+    × ((known : C) → Tells content known → result ≡ unwrap_or heard (meant known))
 again fails None faults meant result holds = (
   Some result,
   record { kept = refl; faults = rw holds.works (omega arith); only = λ content e. cc },
-  λ told tells. refl,
+  λ known knows. refl,
 )
-again fails (Some told) faults meant result holds = (
+again fails (Some known) faults meant result holds = (
   None,
   record { kept = refl; faults = omega arith; only = λ content e. refl },
-  λ other tells. holds.is other (ap Some tells),
+  λ other knows. holds.is other (ap Some knows),
 )
 
 pub heard_again : {C A : Type 0} {fails : A → Bool} (held : Held C) (meant : C → A) (result : A) → Holds fails held.content meant result
-    → (heard : Option A) × Hears fails held held (heard ∷ []) × ((told : C) → Tells held.content told → result ≡ unwrap_or heard (meant told))
+    → (heard : Option A) × Hears fails held held (heard ∷ []) × ((known : C) → Tells held.content known → result ≡ unwrap_or heard (meant known))
 heard_again {fails = fails} held meant result holds = again fails held.content held.faults meant result holds

@@ -2,10 +2,10 @@
 use Rattle.std.proofs.Common.{◌≡◌, ◌+◌, ◌++◌, ℕ, Bool, true, false, List, [], ◌∷◌, Option, None, Some, length, refl, sym, ap, ◌∙◌, subst, arith, append_assoc, append-nil}
 use Rattle.std.specs.Prelude.{if◌then◌else◌, ok_or}
 use Rattle.std.proofs.lemmas.List.{get_or_append_left, get_or-append-add, length-append}
-use Rattle.pf_asks.proofs.HeldLaws.{count_more, counted_none, heard_again, hears_call, hears_more, hears_nothing, tells_kept}
+use Rattle.pf_asks.proofs.HeldLaws.{count_more, counted_none, heard_again, hears_call, hears_more, hears_nothing, knows_kept}
 use Rattle.pf_asks.specs.Heard.{Heard, ◌then◌, nothing}
 use Rattle.pf_asks.specs.Clauses.Held.{Answered, Held, Hears, Holds, Tells, called}
-use Rattle.pf_asks.specs.Clauses.Led.{Led, Links, Looks, Meant, Same, TablesLed, Uses, UsesTold, World, tried, world}
+use Rattle.pf_asks.specs.Clauses.Led.{Led, Links, Looks, Meant, Same, TablesLed, Uses, UsesKnown, World, tried, world}
 use Rattle.pf_asks.specs.Looking.{CanFind, Looked, Stays, Tables, Values, look_failed, looked_up, value_of}
 use Rattle.pf_asks.specs.Questions.{Ask, Gave, Means, ask, behind, done, look, try, ◌>>=◌}
 use Rattle.pf_asks.specs.Resolving.{Asked, answer_of, ask_failed}
@@ -63,33 +63,33 @@ uses_more old mid new (request ∷ asked) more [] others first second = absurd f
 uses_more old mid new (request ∷ asked) more (outcome ∷ heard) others first second =
     (first.0, first.1, first.2, uses_more (tried request.service first.0 old) mid new asked more heard others first.3 second)
 
-uses_told_none : (wire : Option Wire) → UsesTold wire [] [] wire
-uses_told_none None = refl
-uses_told_none (Some wire) = (wire, refl, refl)
+uses_known_none : (wire : Option Wire) → UsesKnown wire [] [] wire
+uses_known_none None = refl
+uses_known_none (Some wire) = (wire, refl, refl)
 
-uses_told_more : (old mid new : Option Wire) (asked more : List Request) (heard others : List Outcome)
-    → UsesTold old asked heard mid → UsesTold mid more others new → UsesTold old (asked ++ more) (heard ++ others) new
-uses_told_more None mid new asked more heard others first second = rw first at second
-uses_told_more (Some wire) mid new asked more heard others first second =
+uses_known_more : (old mid new : Option Wire) (asked more : List Request) (heard others : List Outcome)
+    → UsesKnown old asked heard mid → UsesKnown mid more others new → UsesKnown old (asked ++ more) (heard ++ others) new
+uses_known_more None mid new asked more heard others first second = rw first at second
+uses_known_more (Some wire) mid new asked more heard others first second =
     let next = rw first.1 at second in
     (next.0, next.1, uses_more wire first.0 next.0 asked more heard others first.2 next.2)
 
 pub links_nothing : (links : Held Wire) → Links links links [] []
-links_nothing links = record { faults = counted_none links.faults; uses = uses_told_none links.content }
+links_nothing links = record { faults = counted_none links.faults; uses = uses_known_none links.content }
 
 pub links_more : {a b c : Held Wire} {xs ys : List Request} {heard others : List Outcome}
     → Links a b xs heard → Links b c ys others → Links a c (xs ++ ys) (heard ++ others)
 links_more {a = a} {b} {c} {xs} {ys} {heard} {others} first second = record {
   faults = count_more is_down heard others a.faults b.faults c.faults first.faults second.faults;
-  uses = uses_told_more a.content b.content c.content xs ys heard others first.uses second.uses;
+  uses = uses_known_more a.content b.content c.content xs ys heard others first.uses second.uses;
 }
 
 -- what the objects mean, they mean after calls too
 pub meant_kept : (old new : World) {means : Means} → new.tables.held.content ≡ old.tables.held.content → new.resolver.content ≡ old.resolver.content
     → Meant old means → Meant new means
 meant_kept old new {means = means} tables resolver meant = record {
-  values = tells_kept means.values tables meant.values;
-  rows = tells_kept means.rows resolver meant.rows;
+  values = knows_kept means.values tables meant.values;
+  rows = knows_kept means.rows resolver meant.rows;
 }
 
 -- nothing was asked
@@ -159,14 +159,14 @@ look_works : (meant : Option Found) → look_failed (ok_or meant Fails) ≡ fals
 look_works None = refl
 look_works (Some found) = refl
 
--- an object means something, told or not
+-- an object means something, known or not
 abbrev pub meant_by : {C : Type 0} → Option C → C → C
 meant_by None other = other
-meant_by (Some told) other = told
+meant_by (Some known) other = known
 
-pub tells_meant : {C : Type 0} (content : Option C) (other : C) → Tells content (meant_by content other)
-tells_meant None other = tt
-tells_meant (Some told) other = refl
+pub knows_meant : {C : Type 0} (content : Option C) (other : C) → Tells content (meant_by content other)
+knows_meant None other = tt
+knows_meant (Some known) other = refl
 
 pub stays_once : (old : Tables) (result : Looked) → Stays 1 old (looked_up result old)
 stays_once old result = record { later = omega arith; few = omega arith; count = refl; partial = refl; sound = refl }
@@ -179,8 +179,8 @@ looks_once : (old : Tables) (result : Looked) (id : ℕ) (key : List ℕ) (answe
     → Looks old (looked_up result old) (answered.heard ∷ [])
 looks_once old result id key answered = record {
   stays = stays_once old result;
-  hears = hears_call old.held (value_of id key) result (λ told. look_works ((told id).value key)) (meant_by old.held.content no_values)
-      (tells_meant old.held.content no_values) answered;
+  hears = hears_call old.held (value_of id key) result (λ known. look_works ((known id).value key)) (meant_by old.held.content no_values)
+      (knows_meant old.held.content no_values) answered;
 }
 
 -- a lookup
@@ -200,7 +200,7 @@ led_look {old = old} {result = result} id key w stays answered = rw stays (recor
 asks_once : (old : Held (List Row)) (result : Asked) (name : List ℕ) (kind : Kind) (answered : Answered ask_failed old.content (answer_of name kind) result)
     → Hears ask_failed old (called (ask_failed result) old) (answered.heard ∷ [])
 asks_once old result name kind answered =
-    hears_call old (answer_of name kind) result (λ told. refl) (meant_by old.content []) (tells_meant old.content []) answered
+    hears_call old (answer_of name kind) result (λ known. refl) (meant_by old.content []) (knows_meant old.content []) answered
 
 -- a question to the resolver
 pub led_ask : {old new : Held (List Row)} {result : Asked} (name : List ℕ) (kind : Kind) (w : World)
@@ -244,7 +244,7 @@ led_again id key result w holds = let again = heard_again w.tables.held (value_o
   is = λ means meant more. ap (λ x. record { answer = x; left = more; asked = [] }) (sym (again.2 means.values meant.values));
 }
 
--- tables beside services and a resolver that tell nothing
+-- tables beside services and a resolver of which nothing is known
 abbrev pub alone : Tables → World
 alone tables = world tables (record { content = None; faults = 0 }) (record { content = None; faults = 0 })
 
@@ -259,8 +259,8 @@ pub tables_can_find : {A : Type 0} {ids : List TableId} (old new : Tables) (p q 
 tables_can_find old new p q led can = led_can_find (led (alone old)) can
 
 -- some of the tables
-pub can_find_front : {tables : Tables} (xs ys : List TableId) → CanFind tables (xs ++ ys) → CanFind tables xs
-can_find_front {tables = tables} xs ys can = record { sound = can.sound; there = λ k d lt. rw (get_or_append_left xs ys d k lt) at (can.there k d (omega (arith, lt, length-append xs ys))) }
+pub can_find_prefix : {tables : Tables} (xs ys : List TableId) → CanFind tables (xs ++ ys) → CanFind tables xs
+can_find_prefix {tables = tables} xs ys can = record { sound = can.sound; there = λ k d lt. rw (get_or_append_left xs ys d k lt) at (can.there k d (omega (arith, lt, length-append xs ys))) }
 
 pub can_find_back : {tables : Tables} (xs ys : List TableId) → CanFind tables (xs ++ ys) → CanFind tables ys
 can_find_back {tables = tables} xs ys can = record { sound = can.sound; there = λ k d lt. rw (get_or-append-add xs ys k d) at (can.there (length xs + k) d (omega (arith, lt, length-append xs ys))) }

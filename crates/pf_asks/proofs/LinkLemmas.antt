@@ -2,7 +2,7 @@
 use Rattle.std.proofs.Common.{◌≡◌, ◌<◌, ◌≤◌, ◌+◌, ◌-◌, ℕ, zero, suc, min, ◌++◌, Bool, true, false, List, [], ◌∷◌, Option, None, Some, Ok, length, take, drop, set, refl, sym, ap, ◌∙◌, arith, inl, inr}
 use Rattle.std.proofs.lemmas.Bool.{cases_lt, false≢true, le-ltb, lt-ltb}
 use Rattle.std.proofs.lemmas.List.{length-append, nil_from_length}
-use Rattle.pf_base.proofs.Parts.{copied_front}
+use Rattle.pf_base.proofs.Parts.{copied_prefix}
 use Rattle.pf_base.specs.declared.fault.Failed.{Failed}
 use Rattle.pf_asks.specs.Clauses.MemoryLinks.{MemoryLinks, all_tries, behind_place, fails_at, is_down_at, open_try, outcome_at}
 use Rattle.pf_asks.specs.Wire.{Open, ReceivesIn, Wire, begun, hung_up, next_outcome, reply_bytes}
@@ -21,7 +21,7 @@ set_at (y ∷ z ∷ xs) x (suc n) e = ap (λ rest. y ∷ rest) (set_at (z ∷ xs
 pub set_last : {A : Type 0} (xs : List A) (x : A) → 0 < length xs → set xs (length xs - 1) x ≡ take (length xs - 1) xs ++ x ∷ []
 set_last xs x some = set_at xs x (length xs - 1) (omega (arith, some))
 
--- what stands before the last
+-- what is before the last
 take_at : {A : Type 0} (xs : List A) (x : A) (n : ℕ) → n ≡ length xs → take n (xs ++ x ∷ []) ≡ xs
 take_at [] x zero e = refl
 take_at [] x (suc n) e = absurd (omega (arith, e))
@@ -31,7 +31,7 @@ take_at (y ∷ xs) x (suc n) e = ap (λ rest. y ∷ rest) (take_at xs x n (omega
 pub take_last : {A : Type 0} (xs : List A) (x : A) → take (length (xs ++ x ∷ []) - 1) (xs ++ x ∷ []) ≡ xs
 take_last xs x = take_at xs x (length (xs ++ x ∷ []) - 1) (omega (arith, length-append xs (x ∷ [])))
 
--- the outcomes behind the next one
+-- the outcomes after the next one
 drop_next : (place : ℕ) (outcomes : List Outcome) → place < length outcomes → drop (place + 1) outcomes ≡ (next_outcome (drop place outcomes)).1
 drop_next place [] lt = absurd (omega (arith, lt))
 drop_next zero (outcome ∷ outcomes) lt = refl
@@ -92,7 +92,7 @@ view_received false outcome read n buf wire works opened count copied = absurd (
 view_received true outcome read n buf wire works opened count copied = (
   drop (read + n) (reply_bytes outcome),
   refl,
-  copied_front (reply_bytes outcome) buf read n copied,
+  copied_prefix (reply_bytes outcome) buf read n copied,
   λ none room. nil_from_length _ (omega (arith, count, none, room)),
   λ e. false≢true (sym works ∙ ap (is_down_at Receive) e),
 )

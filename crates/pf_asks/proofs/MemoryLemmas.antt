@@ -31,4 +31,4 @@ found_has_values test (row ∷ rows) all =
 
 -- a question that failed
 pub failed_question : (rows : List Row) (name : List ℕ) (kind : Kind) → Answered ask_failed (Some rows) (answer_of name kind) (Err Failed)
-failed_question rows name kind = record { heard = Some (Err Failed); only = λ told e. refl; is = λ told tells. refl }
+failed_question rows name kind = record { heard = Some (Err Failed); only = λ known e. refl; is = λ known knows. refl }

@@ -20,7 +20,7 @@ infixr 20 ◌then◌
 abbrev pub ◌then◌ : Heard → Heard → Heard
 first then second = record { looks = first.looks ++ second.looks; tries = first.tries ++ second.tries; asks = first.asks ++ second.asks }
 
--- what is heard of the next call, and behind it; past the end each is answered as meant
+-- what is heard of the next call, and after it; past the end each is answered as meant
 abbrev pub next : {A : Type 0} → List (Option A) → Option A × List (Option A)
 next [] = (None, [])
 next (one ∷ more) = (one, more)

@@ -19,7 +19,7 @@ pub record Wire : Type 0 where
   pub tries : List Request
   pub opened : Option Open
 
--- the next outcome and those behind it; past the last one every connection is refused
+-- the next outcome and those after it; past the last one every connection is refused
 abbrev pub next_outcome : List Outcome → Outcome × List Outcome
 next_outcome [] = (Down Connect, [])
 next_outcome (outcome ∷ outcomes) = (outcome, outcomes)
@@ -44,15 +44,15 @@ begun service wire = record {
   opened = Some (record { outcome = (next_outcome wire.outcomes).0; left = reply_bytes (next_outcome wire.outcomes).0 });
 }
 
--- the last try, behind these, was sent a piece more
+-- the last try, after these, was sent a piece more
 abbrev pub with_sent : Wire → List Request → Request → List ℕ → Wire
-with_sent wire front last piece = record wire { tries = front ++ (record last { text = last.text ++ piece } ∷ []) }
+with_sent wire prefix last piece = record wire { tries = prefix ++ (record last { text = last.text ++ piece } ∷ []) }
 
 -- of the open try's reply these bytes are left
 abbrev pub with_left : Wire → Open → List ℕ → Wire
 with_left wire one left = record wire { opened = Some (record one { left = left }) }
 
--- a connect begins a try and fails exactly where its outcome says so; after want of memory the try is begun, or none is open
+-- a connect begins a try and fails exactly where its outcome says so; after lack of memory the try is begun, or none is open
 abbrev pub Connects : {T : Type 0} → Option Wire → Option Wire → Result T OuterFault → List ℕ → Type 0
 Connects None new result service = new ≡ None
 Connects (Some wire) new result service = MatchResult result
@@ -60,14 +60,14 @@ Connects (Some wire) new result service = MatchResult result
     (λ fault. ((fault ≡ Failed) → (new ≡ Some (begun service wire)) × ((next_outcome wire.outcomes).0 ≡ Down Connect))
     × ((fault ≡ NoMemory) → (new ≡ Some (begun service wire)) ⊎ (new ≡ Some (hung_up wire))))
 
--- a send adds the piece to what the open try was sent; a refused one adds a front of it, and fails exactly where the outcome says so.
+-- a send adds the piece to what the open try was sent; a refused one adds a prefix of it, and fails exactly where the outcome says so.
 -- Where no try is open it is refused, and nothing changes.
 abbrev pub SendsIn : {T : Type 0} → Option Open → Wire → Option Wire → Result T OuterFault → List ℕ → Type 0
 SendsIn None wire new result piece = MatchResult result (λ _. ⊥) (λ _. new ≡ Some wire)
-SendsIn (Some one) wire new result piece = (front : List Request) (last : Request) → wire.tries ≡ front ++ (last ∷ [])
+SendsIn (Some one) wire new result piece = (prefix : List Request) (last : Request) → wire.tries ≡ prefix ++ (last ∷ [])
     → MatchResult result
-    (λ _. (new ≡ Some (with_sent wire front last piece)) × (one.outcome ≢ Down Send))
-    (λ fault. (n : ℕ) × (new ≡ Some (with_sent wire front last (take n piece))) × ((fault ≡ Failed) → one.outcome ≡ Down Send))
+    (λ _. (new ≡ Some (with_sent wire prefix last piece)) × (one.outcome ≢ Down Send))
+    (λ fault. (n : ℕ) × (new ≡ Some (with_sent wire prefix last (take n piece))) × ((fault ≡ Failed) → one.outcome ≡ Down Send))
 
 abbrev pub Sends : {T : Type 0} → Option Wire → Option Wire → Result T OuterFault → List ℕ → Type 0
 Sends None new result piece = new ≡ None

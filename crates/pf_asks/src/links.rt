@@ -43,12 +43,12 @@ pub trait Links {
     ghost held: { Self → Held Wire };
 
     /// Begins a try. `Failed` comes exactly where its outcome is Down at Connect, and the count of faults then goes up by one.
-    /// After want of memory the try is begun, or none is open.
+    /// After lack of memory the try is begun, or none is open.
     fn connect(&mut self, service: &[u8]) -> Result<(), OuterFault>
         ensures does { Connects (held self.old).content (held self.new).content result service.now }
         ensures cause { (held self.new).faults ≡ counted_if (outer_failed result) (held self.old).faults };
 
-    /// Sends the whole piece, or, where it is refused, a front of it. `Failed` comes exactly where the outcome of the open
+    /// Sends the whole piece, or, where it is refused, a prefix of it. `Failed` comes exactly where the outcome of the open
     /// try is Down at Send, and the count of faults then goes up by one. Where no try is open it is refused, and nothing is
     /// sent.
     fn send(&mut self, piece: &[u8]) -> Result<(), OuterFault>

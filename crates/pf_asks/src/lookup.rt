@@ -55,7 +55,7 @@ pub trait Lookup {
         requires sound { (tables self.now).sound ≡ true }
         requires there { id.0 < (tables self.now).count }
         ensures is { result ≡ (tables self.now).partial id.0 }
-        ensures told { (values : Values) → (tables self.now).held.content ≡ Some values → result ≡ (values id.0).partial_keys };
+        ensures known { (values : Values) → (tables self.now).held.content ≡ Some values → result ≡ (values id.0).partial_keys };
 
     /// Which values a table may give: each that it has at some key is among them. It is no lookup. `Failed` comes exactly
     /// where the count of faults goes up, by one, and `Fails` never.

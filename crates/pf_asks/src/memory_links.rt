@@ -63,8 +63,8 @@ fn no_request(alloc: Global) -> Request
     }
 }
 
-// Copies the front of what is left into the buffer, and says how many bytes.
-fn copy_front(buf: &mut [u8], left: &[u8]) -> usize
+// Copies the prefix of what is left into the buffer, and says how many bytes.
+fn copy_prefix(buf: &mut [u8], left: &[u8]) -> usize
     ensures count { result ≡ min (length left.now) (length buf.old) }
     ensures copied { take result buf.new ≡ take result left.now }
 {
@@ -112,7 +112,7 @@ impl Model for MemLinks {
 }
 
 impl MemLinks {
-    /// Services that answer each try with the next of these outcomes, and refuse every connection behind the last.
+    /// Services that answer each try with the next of these outcomes, and refuse every connection after the last.
     pub fn new(alloc: Global, outcomes: List<Outcome>) -> MemLinks
         ensures { result ≡ memory.links_with outcomes }
     {
@@ -213,7 +213,7 @@ impl Links for MemLinks {
             return Err(Failed);
         }
         let reply = next_reply(&self.outcomes.as_slice()[self.place..]);
-        let count = copy_front(buf, &reply[self.read..]);
+        let count = copy_prefix(buf, &reply[self.read..]);
         self.read += count;
         Ok(count)
     }

@@ -1,7 +1,7 @@
 pub mod BraceLemmas
 pub mod CutLemmas
 pub mod FileListLemmas
-pub mod FrontLemmas
+pub mod PrefixLemmas
 pub mod LineEnds
 pub mod LogicalLemmas
 pub mod NumberLemmas
@@ -9,5 +9,5 @@ pub mod Parts
 pub mod PrintingLaws
 pub mod Rows
 pub mod StatusLemmas
-pub mod ToldLemmas
+pub mod KnownLemmas
 pub mod WordLemmas

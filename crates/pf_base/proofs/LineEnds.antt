@@ -1,4 +1,4 @@
--- Lemmas on lines and what stands behind the last line feed.
+-- Lemmas on lines and what is after the last line feed.
 use Rattle.std.proofs.Common.{◌≡◌, ◌≢◌, ℕ, Bool, true, false, not, if◌then◌else◌, suc, ◌+◌, ◌-◌, ◌<◌, List, [], ◌∷◌, ◌++◌, length, get_or, take, drop, reverse, refl, sym, ap, ◌∙◌, inl, inr, arith, eqb, cond}
 use Rattle.std.specs.List.{All, join_with_byte, onto_first, prefix_len, suffix_len}
 use Rattle.std.specs.Prelude.{◌⊎◌}
@@ -8,7 +8,7 @@ use Rattle.std.proofs.lemmas.List.Splits.{join_with_byte-slice_split, slice_spli
 use Rattle.pf_base.specs.Text.Lines.{is_feed, lines, parts, rest}
 use Rattle.pf_base.specs.Clauses.Pieces.{onto_line, unless_line}
 
--- how many pass a test from the end back, where one more stands in front
+-- how many pass a test from the end back, where one more is in prefix
 module _ (q : ℕ → Bool) where
   prefix_all : (xs ys : List ℕ) → prefix_len q xs ≡ length xs → prefix_len q (xs ++ ys) ≡ length xs + prefix_len q ys
   prefix_all [] ys all = omega arith
@@ -37,7 +37,7 @@ module _ (q : ℕ → Bool) where
   suffix_some x xs some =
       ap (prefix_len q) (reverse-append (x ∷ []) xs) ∙ prefix_some (reverse xs) (x ∷ []) (omega (arith, some, length-reverse xs))
 
--- how many bytes stand behind the last line feed
+-- how many bytes are after the last line feed
 abbrev behind : List ℕ → ℕ
 behind text = suffix_len (λ b. not (is_feed b)) text
 
@@ -50,7 +50,7 @@ rest_kept b bytes same some =
     let n : length (b ∷ bytes) - behind (b ∷ bytes) ≡ suc (length bytes - behind bytes) = omega (arith, same, some) in
     rest_from (b ∷ bytes) (suc (length bytes - behind bytes)) n ∙ sym (rest_from bytes (length bytes - behind bytes) refl)
 
--- a text is its one part, or its last part is what stands behind its last line feed
+-- a text is its one part, or its last part is what is after its last line feed
 abbrev IsParted : List ℕ → Type 0
 IsParted text =
     ((behind text ≡ length text) × (parts text ≡ text ∷ []))
@@ -94,7 +94,7 @@ lines_of text L r is =
     let n : length (L ++ (r ∷ [])) - 1 ≡ length L = omega (arith, length_push L r) in
     ap (λ p. take (length p - 1) p) is ∙ ap (λ k. take k (L ++ (r ∷ []))) n ∙ take_at L (r ∷ []) (length L) refl
 
--- the parts are the lines and what stands behind the last line feed
+-- the parts are the lines and what is after the last line feed
 pub parts_are : (text : List ℕ) → parts text ≡ lines text ++ (rest text ∷ [])
 parts_are text = by (is_parted text) where
   by : IsParted text → parts text ≡ lines text ++ (rest text ∷ [])
@@ -114,12 +114,12 @@ lines-nil = lines_of [] [] [] refl
 pub rest-nil : rest [] ≡ []
 rest-nil = rest_of [] [] [] refl
 
--- where there is no line, all stands behind the last line feed
+-- where there is no line, all is after the last line feed
 pub rest_of_none : (xs : List ℕ) → lines xs ≡ [] → rest xs ≡ xs
 rest_of_none xs none =
     sym (ap (join_with_byte 10) (parts_are xs ∙ ap (λ L. L ++ (rest xs ∷ [])) none)) ∙ join_with_byte-slice_split 10 xs
 
--- the line that a byte stands before, and what is behind the last line feed
+-- the line that a byte is before, and what is after the last line feed
 onto_split : (b : ℕ) (bytes : List ℕ) (L : List (List ℕ)) → lines bytes ≡ L
     → onto_first b (L ++ (rest bytes ∷ [])) ≡ onto_line (b ∷ []) L ++ (unless_line L (b ∷ bytes) (rest bytes) ∷ [])
 onto_split b bytes [] none = ap (λ r. (b ∷ r) ∷ []) (rest_of_none bytes none)
@@ -177,8 +177,8 @@ pub record IsFirstFeed (bytes : List ℕ) (n : ℕ) : Type 0 where
   pub feed : get_or bytes n 0 ≡ 10
   pub before : (k : ℕ) → k < n → get_or bytes k 0 ≢ 10
 
-front_no_feed : (bytes : List ℕ) (n : ℕ) → IsFirstFeed bytes n → HasNoFeed (take n bytes)
-front_no_feed bytes n f k lt =
+prefix_no_feed : (bytes : List ℕ) (n : ℕ) → IsFirstFeed bytes n → HasNoFeed (take n bytes)
+prefix_no_feed bytes n f k lt =
     let len = length-take-le n bytes (omega (arith, f.within)) in
     let below : k < n = omega (arith, len) in
     rw (get_or-take n bytes k 0 below) (f.before k below)
@@ -188,13 +188,13 @@ cut_at_feed bytes n f =
     sym (take-append-drop n bytes) ∙ ap (λ l. take n bytes ++ l) (drop_more bytes n 0 f.within ∙ ap (λ b. b ∷ drop (n + 1) bytes) f.feed)
 
 pub lines_at_first : (bytes : List ℕ) (n : ℕ) → IsFirstFeed bytes n → lines bytes ≡ take n bytes ∷ lines (drop (n + 1) bytes)
-lines_at_first bytes n f = ap lines (cut_at_feed bytes n f) ∙ lines_at_feed (take n bytes) (drop (n + 1) bytes) (front_no_feed bytes n f)
+lines_at_first bytes n f = ap lines (cut_at_feed bytes n f) ∙ lines_at_feed (take n bytes) (drop (n + 1) bytes) (prefix_no_feed bytes n f)
 
 pub lines_of_first : (bytes : List ℕ) (n : ℕ) → IsFirstFeed bytes n → lines (take n bytes ++ (10 ∷ [])) ≡ take n bytes ∷ []
-lines_of_first bytes n f = lines_of_line (take n bytes) (front_no_feed bytes n f)
+lines_of_first bytes n f = lines_of_line (take n bytes) (prefix_no_feed bytes n f)
 
 pub rest_at_first : (bytes : List ℕ) (n : ℕ) → IsFirstFeed bytes n → rest bytes ≡ rest (drop (n + 1) bytes)
-rest_at_first bytes n f = ap rest (cut_at_feed bytes n f) ∙ rest_at_feed (take n bytes) (drop (n + 1) bytes) (front_no_feed bytes n f)
+rest_at_first bytes n f = ap rest (cut_at_feed bytes n f) ∙ rest_at_feed (take n bytes) (drop (n + 1) bytes) (prefix_no_feed bytes n f)
 
 onto_line-onto_line : (x : ℕ) (xs : List ℕ) (Y : List (List ℕ)) → onto_line (x ∷ []) (onto_line xs Y) ≡ onto_line (x ∷ xs) Y
 onto_line-onto_line x xs [] = refl

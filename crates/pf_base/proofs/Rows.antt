@@ -16,7 +16,7 @@ use Rattle.std.specs.Fmt.{digits}
 use Rattle.pf_base.specs.Text.Space.{is_space, trimmed, without_leading_space, without_trailing_space}
 use Rattle.pf_base.specs.Outside.Statuses.{is_among, without_fault}
 use Rattle.pf_base.specs.TableTexts.{place_of, place_or_next, with_text}
-use Rattle.pf_base.specs.Outside.Told.{Output}
+use Rattle.pf_base.specs.Outside.Known.{Output}
 use Rattle.pf_base.specs.Text.Words.{words_of}
 use Rattle.pf_base.specs.declared.text.logical.TextFault.TheVariants.{Continuation}
 use Rattle.pf_base.specs.declared.pair.Pair.{Pair}
@@ -140,8 +140,8 @@ tab_is_space = refl
 return_is_no_space : is_space 13 ≡ false
 return_is_no_space = refl
 
-space_at_the_front : without_leading_space (codes "\t a b ") ≡ codes "a b "
-space_at_the_front = refl
+space_at_the_prefix : without_leading_space (codes "\t a b ") ≡ codes "a b "
+space_at_the_prefix = refl
 
 space_at_the_end : without_trailing_space (codes " a b\t ") ≡ codes " a b"
 space_at_the_end = refl

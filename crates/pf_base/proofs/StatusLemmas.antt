@@ -2,11 +2,11 @@
 use Rattle.std.proofs.Common.{◌≡◌, ℕ, Bool, true, false, zero, suc, List, [], ◌∷◌, Result, Ok, Err, inl, inr, take, ap, subst, refl, sym, ◌∙◌, eqb}
 use Rattle.std.proofs.lemmas.Bool.{false≢true, ne_eqb}
 use Rattle.std.specs.Prelude.{⊤, ◌⊎◌}
-use Rattle.pf_base.proofs.ToldLemmas.{wrote_none}
+use Rattle.pf_base.proofs.KnownLemmas.{wrote_none}
 use Rattle.pf_base.specs.Outside.Counts.{counted}
 use Rattle.pf_base.specs.Outside.Objects.{Objects, Says, Sinks, StopsBy, sink_status, status_of}
 use Rattle.pf_base.specs.Outside.Statuses.{Counts, HasCauses, NoneRose, counted_if, counts_of, is_among, without_fault}
-use Rattle.pf_base.specs.Outside.Told.{Output, Tree, HoldsFront, wrote}
+use Rattle.pf_base.specs.Outside.Known.{Output, Tree, HoldsPrefix, wrote}
 use Rattle.pf_base.specs.declared.outside.status.TheConstants.{DONE, FILES_FAILED, INPUT_FAILED, NO_MEMORY, REFUSED, USAGE, WARNED}
 use Rattle.pf_base.specs.declared.outside.texts.SinkFault.{SinkFault}
 use Rattle.pf_base.specs.declared.outside.texts.SinkFault.TheVariants as fault
@@ -29,7 +29,7 @@ pub record FilesCause (before now : Tree) (status : ℕ) : Type 0 where
   pub failed : status ≡ FILES_FAILED → now.faults ≡ counted before.faults
   pub kept : is_among without_fault status ≡ true → now.faults ≡ before.faults
 
--- memory was wanting, and no call on a stream failed
+-- it was out of memory, and no call on a stream failed
 pub starved_causes : (before now : Counts) → now.input ≡ before.input → now.out ≡ before.out → now.mail ≡ before.mail → now.log ≡ before.log
     → Once before.files now.files → HasCauses before now 9
 starved_causes before now input out mail log files =
@@ -110,7 +110,7 @@ said_causes before now status (Ok x) texts same says own files = record {
 }
 said_causes before now status (Err why) texts same says own files = stops_causes before now why texts says (ap (λ i. i.faults) same) files.once
 
--- where no count rose, a fault broke nothing off but for want of memory
+-- where no count rose, a fault broke nothing off but for lack of memory
 pub none_stopped : {before now : Counts} {status : ℕ} (why : SinkFault) → status ≡ sink_status why → HasCauses before now status → NoneRose before now → status ≡ NO_MEMORY
 none_stopped {before} fault.Out is causes none = absurd (none.out (causes.out ∙ ap (λ s. counted_if (eqb s 5) before.out) is))
 none_stopped {before} fault.Mail is causes none = absurd (none.mail (causes.mail ∙ ap (λ s. counted_if (eqb s 6) before.mail) is))
@@ -126,8 +126,8 @@ take_nothing : (n : ℕ) → ◌≡◌ {A = List ℕ} (take n []) []
 take_nothing zero = refl
 take_nothing (suc n) = refl
 
-front_same : (old new : Output) (text : List ℕ) → text ≡ [] → HoldsFront old new text → new ≡ old
-front_same old new text none front = rw none at front.2 ∙ ap (wrote old) (take_nothing front.0) ∙ wrote_none old
+prefix_same : (old new : Output) (text : List ℕ) → text ≡ [] → HoldsPrefix old new text → new ≡ old
+prefix_same old new text none prefix = rw none at prefix.2 ∙ ap (wrote old) (take_nothing prefix.0) ∙ wrote_none old
 
 wrote_same : (old : Output) (text : List ℕ) → text ≡ [] → wrote old text ≡ old
 wrote_same old text none = ap (wrote old) none ∙ wrote_none old
@@ -136,7 +136,7 @@ pub stops_record : (old new : Sinks) (texts : Texts) (why : SinkFault) → texts
 stops_record old new texts fault.Mail none stops = absurd (stops.0 none)
 stops_record old new texts fault.Log none stops = ap (λ s. s.mail) stops.1.rest ∙ wrote_same old.mail texts.mail none
 stops_record old new texts fault.Out none stops = ap (λ s. s.mail) stops.1.rest ∙ wrote_same old.mail texts.mail none
-stops_record old new texts fault.NoMemory none (inl stops) = front_same old.mail new.mail texts.mail none stops.mail
+stops_record old new texts fault.NoMemory none (inl stops) = prefix_same old.mail new.mail texts.mail none stops.mail
 stops_record old new texts fault.NoMemory none (inr (inl stops)) = ap (λ s. s.mail) stops.rest ∙ wrote_same old.mail texts.mail none
 stops_record old new texts fault.NoMemory none (inr (inr stops)) = ap (λ s. s.mail) stops.rest ∙ wrote_same old.mail texts.mail none
 

@@ -1,6 +1,6 @@
 -- Words of contracts, between the code and the definitions.
 pub mod FileParts
-pub mod Fronts
+pub mod Prefixes
 pub mod Gathering
 pub mod Meant
 pub mod Memory

@@ -3,4 +3,4 @@ pub mod Counts
 pub mod FileList
 pub mod Objects
 pub mod Statuses
-pub mod Told
+pub mod Known

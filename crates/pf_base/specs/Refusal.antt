@@ -26,7 +26,7 @@ cause_text C14 = codes "C14 setting outside the profile"
 cause_text C15 = codes "C15 file too large"
 cause_text C16 = codes "C16 expansion too long"
 
--- what a refusal names, behind a colon; nothing where it names nothing
+-- what a refusal names, after a colon; nothing where it names nothing
 abbrev pub name_part : List ℕ → List ℕ
 name_part [] = []
 name_part (b ∷ bytes) = codes ": " ++ (b ∷ bytes)

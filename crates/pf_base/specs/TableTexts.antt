@@ -13,7 +13,7 @@ pub record TableTexts : Type 0 where
 abbrev pub place_of : List TableText → List ℕ → Option ℕ
 place_of texts text = position (λ one. bytes_eq one.text text) texts
 
--- the texts with another one behind them, if it is new
+-- the texts with another one after them, if it is new
 abbrev pub with_text : List TableText → Option ℕ → ℕ → List ℕ → List TableText
 with_text texts (Some place) line text = texts
 with_text texts None line text = texts ++ (record { line = line; text = text } ∷ [])

@@ -5,7 +5,7 @@ ghost use Rattle.std.specs.Hash as fed;
 ghost use Rattle.std.specs.Cmp.Rules.{comparing, hashing};
 ghost use Rattle.std.proofs.Common.{rules};
 ghost use lib.Pointwise.{pointwise};
-ghost use Rattle.pf_base.specs.Clauses.Fronts.{AddsFront};
+ghost use Rattle.pf_base.specs.Clauses.Prefixes.{AddsPrefix};
 
 use crate::fault::NoMemory;
 use std::alloc::Global;
@@ -49,11 +49,11 @@ impl Hash for Bytes {
 }
 
 // Puts bytes in the place of as many first ones.
-fn copy_over(bytes: &mut [u8], front: &[u8])
-    requires { length front.now ≤ length bytes.old }
-    ensures { bytes.new ≡ front.now ++ drop (length front.now) bytes.old }
+fn copy_over(bytes: &mut [u8], prefix: &[u8])
+    requires { length prefix.now ≤ length bytes.old }
+    ensures { bytes.new ≡ prefix.now ++ drop (length prefix.now) bytes.old }
 {
-    bytes[..front.len()].copy_from_slice(front);
+    bytes[..prefix.len()].copy_from_slice(prefix);
 }
 
 impl Bytes {
@@ -121,10 +121,10 @@ impl Bytes {
         Ok(())
     }
 
-    /// Adds the parts in turn at the end. Where there is no memory, a front of them may have been added.
+    /// Adds the parts in turn at the end. Where there is no memory, a prefix of them may have been added.
     pub fn extend_all(&mut self, parts: &[&[u8]]) -> Result<(), NoMemory>
         ensures ok { OnOk result (self.new ≡ self.old ++ flat_map (λ part. part.now) parts.now) }
-        ensures err { OnErr result (AddsFront self.old self.new (flat_map (λ part. part.now) parts.now)) }
+        ensures err { OnErr result (AddsPrefix self.old self.new (flat_map (λ part. part.now) parts.now)) }
     {
         for part in parts {
             self.extend(part)?;
@@ -133,11 +133,11 @@ impl Bytes {
     }
 
     /// Puts bytes in the place of as many first ones.
-    pub fn put_front(&mut self, front: &[u8])
-        requires { length front.now ≤ length self.old }
-        ensures { self.new ≡ front.now ++ drop (length front.now) self.old }
+    pub fn put_prefix(&mut self, prefix: &[u8])
+        requires { length prefix.now ≤ length self.old }
+        ensures { self.new ≡ prefix.now ++ drop (length prefix.now) self.old }
     {
-        copy_over(self.items.as_mut_slice(), front);
+        copy_over(self.items.as_mut_slice(), prefix);
     }
 
     /// Lets all bytes go, and keeps their room.

@@ -1,4 +1,4 @@
-//! What may go wrong outside, and want of memory.
+//! What may go wrong outside, and lack of memory.
 use std::alloc::{AllocError, AllocFailed};
 
 /// Memory was wanting.

@@ -87,7 +87,7 @@ fn cause_text(cause: Cause) -> &'static [u8]
     }
 }
 
-// What a refusal names, behind a colon; nothing where it names nothing.
+// What a refusal names, after a colon; nothing where it names nothing.
 fn name_part(alloc: Global, name: &[u8]) -> Result<Bytes, NoMemory>
     ensures { IfOk result (λ part. part ≡ refusal.name_part name.now) }
 {

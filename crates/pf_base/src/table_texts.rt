@@ -66,7 +66,7 @@ impl Specs {
         }
     }
 
-    /// The place of a text, which is added behind the others where it is not there; one that is there keeps its place and
+    /// The place of a text, which is added after the others where it is not there; one that is there keeps its place and
     /// its line. Where there is no memory nothing changes.
     pub fn add(&mut self, alloc: Global, line: u64, text: &[u8]) -> Result<TableId, NoMemory>
         ensures ok { IfOk result (λ id. Adds self.old self.new id.0 line text.now) }

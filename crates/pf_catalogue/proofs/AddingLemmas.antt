@@ -23,6 +23,6 @@ added_more line old now new texts left text so_far one = record {
 pub added_all : (line : ℕ) (old new : TableTexts) (texts : List (List ℕ)) → AddsUpTo line old new texts [] → new ≡ with_texts line old texts
 added_all line old new texts all = all.is ∙ ap (with_texts line old) (sym (all.parts ∙ append-nil all.added))
 
--- the item at a place, and those behind it
+-- the item at a place, and those after it
 pub drop_item : (items : List (List ℕ)) (i : ℕ) (item : List ℕ) → i < length items → item ≡ get_or items i item → drop i items ≡ item ∷ drop (i + 1) items
 drop_item items i item within at = drop_more items i item within ∙ ap (λ first. first ∷ drop (i + 1) items) (sym at)

@@ -20,7 +20,7 @@ use Rattle.pf_catalogue.specs.declared.kind.Kind.{Kind}
 use Rattle.pf_catalogue.specs.declared.kind.Kind.TheVariants as kind
 use Rattle.pf_catalogue.specs.declared.value.Value.TheVariants.{Text, Number, Yes, Items}
 
--- the table: each name stands behind the one before it in the order of bytes
+-- the table: each name is after the one before it in the order of bytes
 abbrev rising : List ℕ → List Row → Bool
 rising before [] = true
 rising before (r ∷ rows) = is_lt (slice_cmp nat_cmp before r.name) && rising r.name rows
@@ -60,11 +60,11 @@ abbrev is_value : Kind → Source → Bool
 is_value k (Is text) = is_some (value_of k text)
 is_value k (DomainOf name) = true
 
-defaults_are_values : list_all (λ r. is_value r.kind r.preset) catalogue ≡ true
+defaults_are_values : list_all (λ r. is_value r.kind r.default_value) catalogue ≡ true
 unfolding catalogue words_of
 defaults_are_values = refl
 
--- numbers: at their bounds and past them, with zeros in front, and with bytes that are no digits
+-- numbers: at their bounds and past them, with zeros in prefix, and with bytes that are no digits
 header_sizes : map (value_of (kind.Number 100 10000000))
     (codes "99" ∷ codes "100" ∷ codes "0100" ∷ codes "10000000" ∷ codes "10000001" ∷ codes "99999999999999999999" ∷ codes "007" ∷ [])
     ≡ None ∷ Some (Number 100) ∷ Some (Number 100) ∷ Some (Number 10000000) ∷ None ∷ None ∷ None ∷ []
@@ -130,7 +130,7 @@ rewrite_clients : map (value_of kind.RewriteClients)
 unfolding words_of
 rewrite_clients = refl
 
--- what stands behind a word that wants a table is that table, whatever it is
+-- what is after a word that wants a table is that table, whatever it is
 clients_in_turn : map (are_rewrite_clients false)
     ([] ∷ (codes "check_address_map" ∷ codes "check_address_map" ∷ []) ∷ (codes "check_address_map" ∷ codes "check_address_map" ∷ codes "a:b" ∷ [])
     ∷ (codes "CHECK_ADDRESS_MAP" ∷ codes "a:b" ∷ codes "permit_sasl_authenticated" ∷ []) ∷ []) ≡ true ∷ true ∷ false ∷ true ∷ []
@@ -143,7 +143,7 @@ restriction_arguments : map (argument_of kind.Restrictions)
     ≡ argument.Table ∷ argument.Table ∷ argument.Text ∷ argument.Text ∷ argument.Nothing ∷ argument.Nothing ∷ []
 restriction_arguments = refl
 
--- tables in items: without one exclamation mark a slash in front, or a colon and no bracket in front
+-- tables in items: without one exclamation mark a slash in prefix, or a colon and no bracket in prefix
 tables_in_items : map table_in
     (codes "example.com" ∷ codes "texthash:t" ∷ codes "!cidr:n" ∷ codes "/file" ∷ codes "!/file" ∷ codes "!!/file"
     ∷ codes "[::1]/128" ∷ codes "![::1]" ∷ codes "2001:db8::1" ∷ codes "10.0.0.0/8" ∷ codes "!" ∷ [] ∷ [])
@@ -151,7 +151,7 @@ tables_in_items : map table_in
     ∷ None ∷ None ∷ Some (codes "2001:db8::1") ∷ None ∷ None ∷ None ∷ []
 tables_in_items = refl
 
--- tables of lists: behind words in any case, and not past the end
+-- tables of lists: after words in any case, and not past the end
 tables_of_restrictions : map (tables_of kind.Restrictions)
     ((codes "check_client_access" ∷ codes "a:b" ∷ codes "permit" ∷ codes "check_policy_service" ∷ codes "check_helo_access" ∷ codes "REJECT"
     ∷ codes "Check_Sender_Access" ∷ codes "c:d" ∷ []) ∷ (codes "a:b" ∷ codes "check_sender_access" ∷ codes "c:d" ∷ codes "check_helo_access" ∷ []) ∷ [])

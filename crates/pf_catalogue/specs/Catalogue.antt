@@ -1,4 +1,4 @@
--- The parameters of main.cf (postconf(5)): their names in byte order, what their values are, and what stands there by default. Which parameters
+-- The parameters of main.cf (postconf(5)): their names in byte order, what their values are, and what is there by default. Which parameters
 -- are in it is postgate's profile, and so are the bounds of numbers.
 use Rattle.std.specs.Prelude.{ℕ, List, [], ◌∷◌, Option, get_or, codes}
 use Rattle.std.specs.List.{position}
@@ -12,10 +12,10 @@ use Rattle.pf_catalogue.specs.declared.kind.Kind.TheVariants.{Text, Origin, Numb
 pub record Row : Type 0 where
   pub name : List ℕ
   pub kind : Kind
-  pub preset : Source
+  pub default_value : Source
 
 abbrev pub row : List ℕ → Kind → Source → Row
-row name kind preset = record { name = name; kind = kind; preset = preset }
+row name kind default_value = record { name = name; kind = kind; default_value = default_value }
 
 unfoldable pub catalogue : List Row
 catalogue =

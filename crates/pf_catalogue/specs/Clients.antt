@@ -18,15 +18,15 @@ is_table_argument Table = true
 is_table_argument Nothing = false
 is_table_argument Text = false
 
--- a test that takes a table behind it
+-- a test that takes a table after it
 abbrev pub wants_table : List ℕ → Bool
 wants_table word = is_table_argument (argument_of RewriteClients word)
 
--- an item can stand where it does: a table, which is no file, where one is wanted, and else a test
+-- an item can be where it does: a table, which is no file, where one is wanted, and else a test
 abbrev pub fits : Bool → List ℕ → Bool
 fits wanted item = if wanted then not (is_file item) else wants_table item || is_client_test item
 
--- tests, each with its table where it wants one; in front of them a table is wanted or not
+-- tests, each with its table where it wants one; before them a table is wanted or not
 abbrev pub are_rewrite_clients : Bool → List (List ℕ) → Bool
 are_rewrite_clients wanted [] = not wanted
 are_rewrite_clients wanted (item ∷ items) = fits wanted item && are_rewrite_clients (not wanted && wants_table item) items

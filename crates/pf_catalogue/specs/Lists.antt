@@ -13,7 +13,7 @@ is_file (b ∷ text) = b == ascii.slash
 abbrev pub has_no_file : List (List ℕ) → Bool
 has_no_file items = list_all (λ item. not (is_file item)) items
 
--- where an address stands
+-- where an address is
 abbrev pub is_address_kind : List ℕ → Bool
 is_address_kind word =
     bytes_eq word (codes "envelope_sender") || bytes_eq word (codes "envelope_recipient")
@@ -34,7 +34,7 @@ abbrev pub begins_with_bracket : List ℕ → Bool
 begins_with_bracket [] = false
 begins_with_bracket (b ∷ text) = b == ascii.left_bracket
 
--- a file, or a type, a colon and a name; an IPv6 address has colons too, and stands in brackets
+-- a file, or a type, a colon and a name; an IPv6 address has colons too, and is in brackets
 abbrev pub is_table : List ℕ → Bool
 is_table text = is_file text || (list_any (λ b. b == ascii.colon) text && not (begins_with_bracket text))
 

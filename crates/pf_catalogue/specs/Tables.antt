@@ -13,7 +13,7 @@ use Rattle.pf_catalogue.specs.declared.kind.Kind.TheVariants.{Maps, Domains, Net
 abbrev pub tables_named : List (List ℕ) → List (List ℕ)
 tables_named items = filter_map table_in items
 
--- what stands behind the words that take a table; in front of the items this is wanted
+-- what is after the words that take a table; before the items this is wanted
 abbrev pub table_arguments : Kind → Argument → List (List ℕ) → List (List ℕ)
 table_arguments kind wanted [] = []
 table_arguments kind Nothing (item ∷ items) = table_arguments kind (argument_of kind item) items

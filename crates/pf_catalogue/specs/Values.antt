@@ -50,7 +50,7 @@ yes_or_no text =
 abbrev pub fixed_yes : List ℕ → Option Value
 fixed_yes text = if bytes_eq text (codes "yes") then Some Text else None
 
--- items that may stand in a list of a kind; a kind that is no list has none
+-- items that may be in a list of a kind; a kind that is no list has none
 abbrev pub are_items : Kind → List (List ℕ) → Bool
 are_items kind.Text items = false
 are_items kind.Origin items = false

@@ -5,7 +5,7 @@ ghost use Rattle.pf_catalogue.specs.Arguments as spec;
 use crate::kind::Kind;
 use pf_base::same_in_any_case;
 
-/// What a word takes behind it.
+/// What a word takes after it.
 #[derive(Clone, Copy, Debug, PartialEq, Eq)]
 pub(crate) enum Argument {
     Nothing,
@@ -59,7 +59,7 @@ fn client_argument(word: &[u8]) -> Argument
     }
 }
 
-/// What a word of a list takes behind it.
+/// What a word of a list takes after it.
 pub(crate) fn argument_of(kind: Kind, word: &[u8]) -> Argument
     ensures { result ≡ spec.argument_of kind word.now }
 {

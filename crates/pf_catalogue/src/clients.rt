@@ -26,7 +26,7 @@ fn wants_table(word: &[u8]) -> bool
     }
 }
 
-// Whether an item can stand where it does: a table behind a word that wants one, and else a test.
+// Whether an item can be where it does: a table after a word that wants one, and else a test.
 fn fits(wanted: bool, item: &[u8]) -> bool
     ensures { result ≡ spec.fits wanted item.now }
 {

@@ -23,7 +23,7 @@ pub enum Kind {
     Hosts,
     /// Restrictions with their arguments.
     Restrictions,
-    /// Where addresses stand that are rewritten: envelope_sender, envelope_recipient, header_sender and header_recipient.
+    /// Where addresses are that are rewritten: envelope_sender, envelope_recipient, header_sender and header_recipient.
     AddressKinds,
     /// What an address's extension is handed on by: canonical, virtual, alias, forward, include and generic.
     Extensions,

@@ -1,4 +1,4 @@
-//! The parameters of main.cf: which there are, what their values are, and what stands there by default (postconf(5)).
+//! The parameters of main.cf: which there are, what their values are, and what is there by default (postconf(5)).
 #![tactic(auto)]
 
 mod arguments;

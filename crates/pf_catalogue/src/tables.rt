@@ -1,6 +1,6 @@
 //! The tables and files that a list names.
 ghost use Rattle.std.specs.Prelude.{◌≡◌, map, OnOk, OnErr};
-ghost use Rattle.pf_catalogue.specs.Clauses.Adding.{AddsFront};
+ghost use Rattle.pf_catalogue.specs.Clauses.Adding.{AddsPrefix};
 ghost use Rattle.pf_catalogue.specs.Tables as spec;
 ghost use Rattle.pf_catalogue.specs.declared.arguments.Argument.TheVariants.{Nothing};
 
@@ -22,7 +22,7 @@ fn add(alloc: Global, specs: &mut Specs, line: u64, text: &[u8]) -> Result<(), N
 // Adds each item.
 fn add_all(alloc: Global, specs: &mut Specs, line: u64, items: &[Bytes]) -> Result<(), NoMemory>
     ensures ok { OnOk result (specs.new ≡ spec.with_texts line specs.old items.now) }
-    ensures err { OnErr result (AddsFront line specs.old specs.new items.now) }
+    ensures err { OnErr result (AddsPrefix line specs.old specs.new items.now) }
 {
     for item in items {
         add(alloc, specs, line, item.as_slice())?;
@@ -33,7 +33,7 @@ fn add_all(alloc: Global, specs: &mut Specs, line: u64, items: &[Bytes]) -> Resu
 // Adds the table or file that each item names.
 fn add_named(alloc: Global, specs: &mut Specs, line: u64, items: &[Bytes]) -> Result<(), NoMemory>
     ensures ok { OnOk result (specs.new ≡ spec.with_texts line specs.old (spec.tables_named items.now)) }
-    ensures err { OnErr result (AddsFront line specs.old specs.new (spec.tables_named items.now)) }
+    ensures err { OnErr result (AddsPrefix line specs.old specs.new (spec.tables_named items.now)) }
 {
     for item in items {
         if let Some(text) = table_in(item.as_slice()) {
@@ -43,7 +43,7 @@ fn add_named(alloc: Global, specs: &mut Specs, line: u64, items: &[Bytes]) -> Re
     Ok(())
 }
 
-// Adds the table behind each word that takes one.
+// Adds the table after each word that takes one.
 fn add_arguments(
     alloc: Global,
     specs: &mut Specs,
@@ -52,7 +52,7 @@ fn add_arguments(
     items: &[Bytes],
 ) -> Result<(), NoMemory>
     ensures ok { OnOk result (specs.new ≡ spec.with_texts line specs.old (spec.table_arguments kind Nothing items.now)) }
-    ensures err { OnErr result (AddsFront line specs.old specs.new (spec.table_arguments kind Nothing items.now)) }
+    ensures err { OnErr result (AddsPrefix line specs.old specs.new (spec.table_arguments kind Nothing items.now)) }
 {
     let mut wanted = Argument::Nothing;
     for item in items {
@@ -70,8 +70,8 @@ fn add_arguments(
 
 /// Adds the tables and files that the items of a list of this kind name, in order, with the line of their setting: in a
 /// list of tables each item, in one of domains, networks or hosts each item that begins with `/`, or holds a colon and does
-/// not begin with `[`, less a leading `!`, and in one of restrictions or clients what stands behind a word that takes a
-/// table (DATABASE_README; postconf(5)). Where there is no memory, a front of them may have been added.
+/// not begin with `[`, less a leading `!`, and in one of restrictions or clients what is after a word that takes a
+/// table (DATABASE_README; postconf(5)). Where there is no memory, a prefix of them may have been added.
 pub fn add_tables(
     alloc: Global,
     specs: &mut Specs,
@@ -80,7 +80,7 @@ pub fn add_tables(
     items: &[Bytes],
 ) -> Result<(), NoMemory>
     ensures ok { OnOk result (specs.new ≡ spec.with_texts line specs.old (spec.tables_of kind items.now)) }
-    ensures err { OnErr result (AddsFront line specs.old specs.new (spec.tables_of kind items.now)) }
+    ensures err { OnErr result (AddsPrefix line specs.old specs.new (spec.tables_of kind items.now)) }
 {
     match kind {
         Kind::Maps => add_all(alloc, specs, line, items),

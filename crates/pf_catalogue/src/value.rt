@@ -15,7 +15,7 @@ const LEAST_CODE: u32 = 400;
 
 const GREATEST_CODE: u32 = 599;
 
-/// What the text of a parameter says: a text as it stands, a number, yes or no, or the items of a list.
+/// What the text of a parameter says: a text as it is, a number, yes or no, or the items of a list.
 #[derive(Debug, Drop)]
 pub enum Value {
     Text,
@@ -121,7 +121,7 @@ fn fixed_yes(text: &[u8]) -> Option<Value>
     }
 }
 
-// Whether items may stand in a list of this kind.
+// Whether items may be in a list of this kind.
 fn are_items(kind: Kind, items: &[Bytes]) -> bool
     ensures { result ≡ spec.are_items kind items.now }
 {

@@ -25,7 +25,7 @@ pub get_by_table : (slots : List Slot) (table : ℕ) (d : List Slot) → table <
 unfolding by_table
 get_by_table slots table d low = get_or-map-range_with_len (of_table slots) 0 256 table table d low (omega arith)
 
--- a vector that grew by a slot: v stood at the place of the slot's table, w stands there now
+-- a vector that grew by a slot: v was at the place of the slot's table, w is there now
 pub with_slot_is : {V : Type 0} (f : V → List Slot) (vs : List V) (v w : V) (slot : Slot) → slot.hash % 256 < length vs
     → v ≡ get_or vs (slot.hash % 256) v → f w ≡ f v ++ slot ∷ [] → map f (set vs (slot.hash % 256) w) ≡ with_slot (map f vs) slot
 with_slot_is f vs v w slot low at grew =
@@ -61,7 +61,7 @@ by_table_more slots slot =
     ∙ sym after)
     (cases_eq t k))
 
--- the record behind those that are placed
+-- the record after those that are placed
 pub placed_push : (at : ℕ) (pairs : List Pair) (pair : Pair)
     → placed at (pairs ++ pair ∷ []) ≡ placed at pairs ++ record { hash = hash_of pair.key; at = at + sum_by record_size pairs } ∷ []
 placed_push at [] pair = ap (λ n. record { hash = hash_of pair.key; at = n } ∷ []) (omega arith)

@@ -106,8 +106,8 @@ unfolding slot_damage is_slot_out
 no_slot_out file lie = none_in_slots Slots file (λ table i low within.
     let slot = slot_of file table i in
     undamaged (is_slot_out file slot) (SlotRange table i) (unless_used slot _ (λ used.
-    let (front, end) = lie table i low within used in
-    or_from (nat_lt slot.at 2048) (nat_lt (length file) (slot.at + 8)) (le-ltb slot.at 2048 front) (le-ltb (length file) (slot.at + 8) end))))
+    let (prefix, end) = lie table i low within used in
+    or_from (nat_lt slot.at 2048) (nat_lt (length file) (slot.at + 8)) (le-ltb slot.at 2048 prefix) (le-ltb (length file) (slot.at + 8) end))))
 
 no_record_out : (file : List ℕ) → RecordsLie file → first_in_slots Records file ≡ None
 unfolding slot_damage is_record_out

@@ -16,7 +16,7 @@ use Rattle.pf_cdb.specs.Layout.{key_length, slot_of, slots_in, table_of, value_l
 use Rattle.pf_cdb.specs.Sound.{IsSound}
 use Rattle.pf_cdb.specs.declared.layout.Slot.{Slot}
 
--- what is found stands somewhere and passes
+-- what is found is somewhere and passes
 pub find_there : {X : Type 0} (p : X → Bool) (xs : List X) (x : X) → find p xs ≡ Some x → (k : ℕ) × (k < length xs) × (get_or xs k x ≡ x) × (p x ≡ true)
 find_there p xs x h =
     let e = sym (find_at p xs) ∙ h in
@@ -28,10 +28,10 @@ pub map_some : {X Y : Type 0} (f : X → Y) (o : Option X) (y : Y) → option_ma
 map_some f None y h = absurd (cc)
 map_some f (Some x) y h = (x, refl, cc)
 
--- what stands in the front of used slots stands there, and is used
-pub used_front : (slots : List Slot) (k : ℕ) (d : Slot) → k < length (take_while is_used slots)
+-- what is in the prefix of used slots is there, and is used
+pub used_prefix : (slots : List Slot) (k : ℕ) (d : Slot) → k < length (take_while is_used slots)
     → (k < length slots) × (get_or (take_while is_used slots) k d ≡ get_or slots k d) × (is_used (get_or slots k d) ≡ true)
-used_front slots k d h =
+used_prefix slots k d h =
     let low : k < prefix_len is_used slots = omega (arith, length-take (prefix_len is_used slots) slots) in
     let within : k < length slots = omega (arith, length-take (prefix_len is_used slots) slots) in
     (within, get_or-take (prefix_len is_used slots) slots k d low, prefix_len_passes is_used slots k d low)
@@ -54,7 +54,7 @@ is_there file key at h =
     let slots = table_of file table in
     let (slot, found, place) = map_some (λ s. s.at) (find (has_key file key) (reached slots (hash_of key))) at h in
     let (k, short, same, passes) = find_there (has_key file key) (reached slots (hash_of key)) slot found in
-    let (low, here, used) = used_front (tried slots (hash_of key)) k slot short in
+    let (low, here, used) = used_prefix (tried slots (hash_of key)) k slot short in
     let below : k < slots_in file table = omega (arith, length_tried slots (hash_of key), length_table file table) in
     let step : k < length slots = omega (arith, length_table file table) in
     let i = (hash_of key / 256 + k) % slots_in file table in
@@ -71,9 +71,9 @@ is_there file key at h =
       has = ap (has_key file key) (sym is) ∙ passes;
     }
 
--- a record lies within the file, behind the header
+-- a record lies within the file, after the header
 pub record LiesIn (file : List ℕ) (at : ℕ) : Type 0 where
-  pub front : 2048 ≤ at
+  pub prefix : 2048 ≤ at
   pub whole : at + 8 + key_length file at + value_length file at ≤ length file
 
 pub held_lies : (file key : List ℕ) (at : ℕ) → IsSound file → held file key ≡ Some at → LiesIn file at
@@ -81,7 +81,7 @@ held_lies file key at sound h =
     let there = is_there file key at h in
     let table : hash_of key % 256 < 256 = mod_below (hash_of key) 256 (omega arith) in
     record {
-      front = rw there.names at (sound.slots (hash_of key % 256) there.i table there.within there.used).0;
+      prefix = rw there.names at (sound.slots (hash_of key % 256) there.i table there.within there.used).0;
       whole = rw there.names at (sound.records (hash_of key % 256) there.i table there.within there.used);
     }
 

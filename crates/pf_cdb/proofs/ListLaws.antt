@@ -42,7 +42,7 @@ is_held_from file at e = held_says file at (Some at) e ∙ eq-eqb at at refl
 pub not_held : (file : List ℕ) (at : ℕ) → IsSound file → at < 2048 → is_held file at ≡ false
 not_held file at sound low =
     false_from_ne_true (is_held file at) (λ e.
-    let lies = held_lies file (key_at file at) at sound (is_held_means file at e) in absurd (omega (arith, lies.front)))
+    let lies = held_lies file (key_at file at) at sound (is_held_means file at e) in absurd (omega (arith, lies.prefix)))
 
 -- one slot of a table more
 pub names_more : (file : List ℕ) (table i : ℕ) → i < slots_in file table

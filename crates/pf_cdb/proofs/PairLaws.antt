@@ -80,7 +80,7 @@ pair_of_key file key sound =
     find_map (λ pair. bytes_eq pair.key key) (pair_at file) (filter (is_held file) (range_with_len 0 (length file)))
     ∙ ap (option_map (pair_at file)) (find_only _ _ (held file key) (held_is_only file key sound))
 
--- the bytes where the value stands are the value
+-- the bytes where the value is are the value
 value_is : (file : List ℕ) (at : ℕ) → slice_range file (value_span file at).start (value_span file at).end ≡ value_at file at
 value_is file at =
     let size : at + 8 + key_length file at + value_length file at - (at + 8 + key_length file at) ≡ value_length file at = omega arith in

@@ -45,19 +45,19 @@ rotates a n i low =
     ))
     (cases_lt (a % n) (i + 1))
 
-count_front : (slots : List Slot) (n : ℕ) → n ≤ length slots → ((i : ℕ) → i < n → is_used (get_or slots i empty) ≡ true) → count_by is_used (take n slots) ≡ n
-count_front slots zero low used = refl
-count_front slots (suc n) low used =
+count_prefix : (slots : List Slot) (n : ℕ) → n ≤ length slots → ((i : ℕ) → i < n → is_used (get_or slots i empty) ≡ true) → count_by is_used (take n slots) ≡ n
+count_prefix slots zero low used = refl
+count_prefix slots (suc n) low used =
     ap (λ k. count_by is_used (take k slots)) (sym (add-one n))
     ∙ count_by_more_yes is_used slots n empty (omega arith) (used n (omega arith))
-    ∙ ap (λ k. k + 1) (count_front slots n (omega arith) (λ i less. used i (omega arith)))
+    ∙ ap (λ k. k + 1) (count_prefix slots n (omega arith) (λ i less. used i (omega arith)))
     ∙ add-one n
 
 -- where all steps meet used slots, all slots are used
 pub all_used : (slots : List Slot) (hash : ℕ) → ((k : ℕ) → k < length slots → is_used (step_slot slots hash k) ≡ true) → count_by is_used slots ≡ length slots
 all_used slots hash used =
     ap (count_by is_used) (sym (take_all (length slots) slots (omega arith)))
-    ∙ count_front slots (length slots) (omega arith) (λ i low.
+    ∙ count_prefix slots (length slots) (omega arith) (λ i low.
     let (j, within, at) = rotates (hash / 256) (length slots) i low in
     ap (λ k. is_used (get_or slots k empty)) (sym at) ∙ used j within)
 

@@ -1,4 +1,4 @@
--- The records of a file that stand one behind the other, and the slots that name them.
+-- The records of a file that stand one after the other, and the slots that name them.
 use Rattle.std.proofs.Common.{◌≡◌, ◌+◌, ◌<◌, ◌≤◌, ◌^◌, ℕ, true, false, List, [], ◌∷◌, ◌++◌, Option, Some, cond, length, map, refl, ap, ◌∙◌, sym, subst, arith, ⊎_elim}
 use Rattle.std.specs.List.{All, AllPairs, find, flat_map, sum_by}
 use Rattle.std.specs.Prelude.{◌==◌}
@@ -48,23 +48,23 @@ record_is file at pair fits stands =
 
 -- a slot names a record that lies in the file and whose key has the slot's hash
 pub record IsPlaced (file : List ℕ) (slot : Slot) : Type 0 where
-  pub front : 2048 ≤ slot.at
+  pub prefix : 2048 ≤ slot.at
   pub whole : slot.at + 8 + key_length file slot.at + value_length file slot.at ≤ length file
   pub hash : hash_of (key_at file slot.at) ≡ slot.hash
   pub low : slot.hash < 2 ^ 32
 
 is_placed : (file : List ℕ) (at : ℕ) (pair : Pair) → 2048 ≤ at → at + record_size pair ≤ length file → IsRecord file at pair
     → IsPlaced file (record { hash = hash_of pair.key; at = at })
-is_placed file at pair front whole is = record {
-  front = front;
+is_placed file at pair prefix whole is = record {
+  prefix = prefix;
   whole = omega (arith, is.key_size, is.value_size, whole);
   hash = ap hash_of is.key;
   low = hash_low pair.key;
 }
 
--- records that stand from a place on, within the file
+-- records that are from a place on, within the file
 pub record RecordsStand (file : List ℕ) (at : ℕ) (pairs : List Pair) : Type 0 where
-  pub front : 2048 ≤ at
+  pub prefix : 2048 ≤ at
   pub whole : at + sum_by record_size pairs ≤ length file
   pub fits : length file ≤ 67108864
   pub stand : Stands file at (flat_map record_bytes pairs)
@@ -76,7 +76,7 @@ first_record file at pair pairs records =
 
 pub other_records : (file : List ℕ) (at : ℕ) (pair : Pair) (pairs : List Pair) → RecordsStand file at (pair ∷ pairs) → RecordsStand file (at + record_size pair) pairs
 other_records file at pair pairs records = record {
-  front = omega (arith, records.front);
+  prefix = omega (arith, records.prefix);
   whole = omega (arith, records.whole, sum_by-cons record_size pair pairs);
   fits = records.fits;
   stand = stands_right file at (record_size pair) (record_bytes pair) (flat_map record_bytes pairs) (length_record pair) records.stand;
@@ -86,7 +86,7 @@ pub all_placed : (file : List ℕ) (at : ℕ) (pairs : List Pair) → RecordsSta
 all_placed file at [] records = All-nil (IsPlaced file)
 all_placed file at (pair ∷ pairs) records =
     All-cons (IsPlaced file) (record { hash = hash_of pair.key; at = at }) (placed (at + record_size pair) pairs)
-    (is_placed file at pair records.front (omega (arith, records.whole, sum_by-cons record_size pair pairs)) (first_record file at pair pairs records))
+    (is_placed file at pair records.prefix (omega (arith, records.whole, sum_by-cons record_size pair pairs)) (first_record file at pair pairs records))
     (all_placed file (at + record_size pair) pairs (other_records file at pair pairs records))
 
 -- a slot has a key where its pair has it

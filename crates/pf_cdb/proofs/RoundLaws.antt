@@ -7,7 +7,7 @@ use Rattle.std.proofs.lemmas.List.{append-nil, append_assoc, get_or-replicate, g
 use Rattle.std.proofs.lemmas.List.Elements.{All-head, All-tail, filter-append}
 use Rattle.std.proofs.lemmas.Nat.{div-add-mod', mod_below, mul-le}
 use native.Mathlib.Nat.{add-mul}
-use Rattle.pf_cdb.proofs.HeldLaws.{used_front}
+use Rattle.pf_cdb.proofs.HeldLaws.{used_prefix}
 use Rattle.pf_cdb.proofs.PlaceLaws.{count_empty, count_put, length_put, rotates}
 use Rattle.pf_cdb.proofs.ReachLaws.{free_low, free_place, free_step, is_free}
 use Rattle.pf_cdb.proofs.SearchLaws.{get_tried, length_tried}
@@ -134,7 +134,7 @@ holds_filled placed hash used =
     (omega (arith, count_empty (2 * length placed), length-replicate (2 * length placed) empty)) used (holds_none (2 * length placed) hash)
 
 all_used : (slots : List Slot) → All (λ s. is_used s ≡ true) (take_while is_used slots)
-all_used slots k d low = let front = used_front slots k d low in ap is_used front.1 ∙ front.2
+all_used slots k d low = let prefix = used_prefix slots k d low in ap is_used prefix.1 ∙ prefix.2
 
 -- what is looked for, of one hash, is found in the table as among the slots that were put
 pub found_filled : (placed : List Slot) (hash : ℕ) (p : Slot → Bool) → All (λ s. is_used s ≡ true) placed
@@ -142,7 +142,7 @@ pub found_filled : (placed : List Slot) (hash : ℕ) (p : Slot → Bool) → All
 found_filled placed hash p used implies =
     let holds = holds_filled placed hash used in
     let test = is_of_hash hash in
-    let front = reached (filled placed) hash in
-    sym (find_filter p test front (λ k d low. implies (get_or front k d) (all_used (tried (filled placed) hash) k d low)))
+    let prefix = reached (filled placed) hash in
+    sym (find_filter p test prefix (λ k d low. implies (get_or prefix k d) (all_used (tried (filled placed) hash) k d low)))
     ∙ ap (find p) (holds.settled ∙ holds.same)
     ∙ find_filter p test placed (λ k d low. implies (get_or placed k d) (used k d low))

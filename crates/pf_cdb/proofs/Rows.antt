@@ -25,7 +25,7 @@ slots =
     (37 ∷ 112 ∷ 89 ∷ 0 ∷ 22 ∷ 8 ∷ 0 ∷ 0 ∷ []) ++ replicate 24 0
     ++ (37 ∷ 110 ∷ 89 ∷ 0 ∷ 0 ∷ 8 ∷ 0 ∷ 0 ∷ []) ++ (37 ∷ 111 ∷ 89 ∷ 0 ∷ 11 ∷ 8 ∷ 0 ∷ 0 ∷ [])
 
--- an empty table that would stand at 2081, and one at 2129
+-- an empty table that would be at 2081, and one at 2129
 abbrev before_table : List ℕ
 before_table = 33 ∷ 8 ∷ 0 ∷ 0 ∷ 0 ∷ 0 ∷ 0 ∷ 0 ∷ []
 
@@ -72,7 +72,7 @@ each_is_held : map (is_held file) (2048 ∷ 2049 ∷ 2059 ∷ 2070 ∷ []) ≡ t
 unfolding hash_of held is_held table_of tried word
 each_is_held = refl
 
--- a key is asked for with a null byte behind it where it is not there without
+-- a key is asked for with a null byte after it where it is not there without
 with_null_bytes : map (answer_of (pair (codes "aa" ++ 0 ∷ []) (codes "1" ++ 0 ∷ []) ∷ pair (codes "ii") (codes "2" ++ 0 ∷ []) ∷ pair (codes "ii" ++ 0 ∷ []) (codes "3") ∷ []))
     (codes "aa" ∷ codes "ii" ∷ codes "qq" ∷ []) ≡ Some (codes "1") ∷ Some (codes "2" ++ 0 ∷ []) ∷ None ∷ []
 unfolding answer_of ends_in_null without_null
@@ -84,7 +84,7 @@ listed_pairs : map listed_pair (pair (codes "aa" ++ 0 ∷ []) (codes "1" ++ 0 �
 unfolding ends_in_null listed_pair without_null
 listed_pairs = refl
 
--- damage: none, a file that is cut off, a slot behind the file, a key that is too long, another hash
+-- damage: none, a file that is cut off, a slot after the file, a key that is too long, another hash
 no_damage : first_damage file ≡ None
 unfolding first_below first_in_slots first_in_tables hash_of is_hash_wrong is_record_out is_slot_out is_table_out slot_damage table_damage word
 no_damage = refl

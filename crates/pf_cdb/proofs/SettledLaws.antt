@@ -1,4 +1,4 @@
--- Lists in which all that pass stand before the first that is not used, and one more put where none was used.
+-- Lists in which all that pass are before the first that is not used, and one more put where none was used.
 use Rattle.std.proofs.Common.{◌≡◌, ◌+◌, ◌<◌, ℕ, zero, suc, Bool, true, false, cond, List, [], ◌∷◌, ◌++◌, Some, length, drop, get_or, set, refl, ap, ◌∙◌, sym, arith, ⊎_elim}
 use Rattle.std.specs.List.{All, filter, find, prefix_len}
 use Rattle.std.specs.Prelude.{take_while}
@@ -37,17 +37,17 @@ none_pass test [] all = refl
 none_pass test (x ∷ xs) all =
     filter_no test x xs (All-head (λ y. test y ≡ false) x xs all) ∙ none_pass test xs (All-tail (λ y. test y ≡ false) x xs all)
 
--- all that pass stand before the first that is not used
+-- all that pass are before the first that is not used
 abbrev pub Settled : {X : Type 0} → (X → Bool) → (X → Bool) → List X → Type 0
 Settled used test xs = filter test (take_while used xs) ≡ filter test xs
 
 settled_tail : {X : Type 0} (used test : X → Bool) (x : X) (xs : List X) → used x ≡ true → Settled used test (x ∷ xs) → Settled used test xs
 settled_tail used test x xs u settled =
-    let front = take_while used xs in
-    let e : filter test (x ∷ front) ≡ filter test (x ∷ xs) = ap (filter test) (sym (while_yes used x xs u)) ∙ settled in
+    let prefix = take_while used xs in
+    let e : filter test (x ∷ prefix) ≡ filter test (x ∷ xs) = ap (filter test) (sym (while_yes used x xs u)) ∙ settled in
     ⊎_elim {A = test x ≡ true} {B = test x ≡ false}
-    (λ t. ap (drop 1) (sym (filter_yes test x front t) ∙ e ∙ filter_yes test x xs t))
-    (λ f. sym (filter_no test x front f) ∙ e ∙ filter_no test x xs f)
+    (λ t. ap (drop 1) (sym (filter_yes test x prefix t) ∙ e ∙ filter_yes test x xs t))
+    (λ f. sym (filter_no test x prefix f) ∙ e ∙ filter_no test x xs f)
     (cases_Bool (test x))
 
 settled_none : {X : Type 0} (used test : X → Bool) (x : X) (xs : List X) → used x ≡ false → test x ≡ false → Settled used test (x ∷ xs) → filter test xs ≡ []
@@ -72,7 +72,7 @@ cond_append : {X : Type 0} (b : Bool) (x : X) (xs ys : List X) → cond b (x ∷
 cond_append true x xs ys = refl
 cond_append false x xs ys = refl
 
--- the list is settled with one more, which stands behind the others that pass
+-- the list is settled with one more, which is after the others that pass
 pub record Puts {X : Type 0} (used test : X → Bool) (xs : List X) (j : ℕ) (y : X) : Type 0 where
   pub settled : Settled used test (set xs j y)
   pub same : filter test (set xs j y) ≡ filter test xs ++ filter test (y ∷ [])

@@ -1,4 +1,4 @@
--- Bytes that stand at a place of a file, and what is read there.
+-- Bytes that are at a place of a file, and what is read there.
 use Rattle.std.proofs.Common.{◌≡◌, ◌+◌, ◌<◌, ◌^◌, ℕ, zero, suc, List, [], ◌∷◌, ◌++◌, length, take, drop, get_or, refl, ap, ◌∙◌, sym, subst, arith}
 use Rattle.std.specs.Int.{from_le_bytes, w32}
 use Rattle.std.specs.List.{flat_map, sum_by}
@@ -8,7 +8,7 @@ use Rattle.std.proofs.lemmas.Nat.{from_le_bytes-to_le_bytes_4}
 use Rattle.pf_cdb.specs.Layout.{word}
 use Rattle.pf_cdb.specs.Written.{bytes_of}
 
--- these bytes stand at this place
+-- these bytes are at this place
 pub record Stands (file : List ℕ) (at : ℕ) (bytes : List ℕ) : Type 0 where
   pub rest : List ℕ
   pub is : drop at file ≡ bytes ++ rest
@@ -29,7 +29,7 @@ pub word_there : (file : List ℕ) (at n : ℕ) → n < 2 ^ 32 → Stands file a
 unfolding word
 word_there file at n low stands = ap (from_le_bytes w32) (take_there file at 4 (bytes_of n) refl stands) ∙ from_le_bytes-to_le_bytes_4 n low
 
--- of parts that stand one behind the other, the one at a place
+-- of parts that stand one after the other, the one at a place
 pub stands_nth : {X : Type 0} (f : X → List ℕ) (size : X → ℕ) → ((x : X) → length (f x) ≡ size x)
     → (file : List ℕ) (at : ℕ) (xs : List X) (i : ℕ) (d : X) → i < length xs → Stands file at (flat_map f xs) → Stands file (at + sum_by size (take i xs)) (f (get_or xs i d))
 stands_nth f size sizes file at [] i d low stands = absurd (omega arith)

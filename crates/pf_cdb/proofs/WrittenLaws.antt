@@ -1,4 +1,4 @@
--- Where the parts of a file that is written stand, and what is read there.
+-- Where the parts of a file that is written are, and what is read there.
 use Rattle.std.proofs.Common.{◌≡◌, ◌+◌, ◌*◌, ◌<◌, ◌≤◌, ◌^◌, ℕ, zero, suc, List, [], ◌∷◌, ◌++◌, length, take, get_or, refl, ap, ◌∙◌, sym, subst, arith}
 use Rattle.std.specs.List.{All, flat_map, fold, sum_by}
 use Rattle.std.proofs.lemmas.List.{append-nil, append_assoc, get_or-map, length-map, length-take-le}

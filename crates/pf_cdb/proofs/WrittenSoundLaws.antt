@@ -26,7 +26,7 @@ use Rattle.pf_cdb.specs.declared.layout.Slot.{Slot}
 -- the records of the file
 pub records_written : (entries : List Pair) → Fits entries → RecordsStand (written entries) 2048 entries
 records_written entries fits = record {
-  front = omega arith;
+  prefix = omega arith;
   whole = omega (arith, length_written entries);
   fits = fits;
   stand = records_stand entries;
@@ -85,7 +85,7 @@ sound_written entries fits = record {
       omega (arith, table_at_is entries table fits low, slots_in_is entries table fits low, place_fits entries table low);
   slots = λ table i low within used.
       let right = right_slot entries table i fits low within used in
-      (right.placed.front, omega (arith, right.placed.whole));
+      (right.placed.prefix, omega (arith, right.placed.whole));
   records = λ table i low within used. (right_slot entries table i fits low within used).placed.whole;
   hashes = λ table i low within used.
       let right = right_slot entries table i fits low within used in
@@ -94,7 +94,7 @@ sound_written entries fits = record {
 
 -- what is held for a key is the first record with the key
 all_placed_used : (file : List ℕ) (slots : List Slot) → All (IsPlaced file) slots → All (λ s. is_used s ≡ true) slots
-all_placed_used file slots all = All-weaker (IsPlaced file) (λ s. is_used s ≡ true) (λ s is. used_is s (omega (arith, is.front))) slots all
+all_placed_used file slots all = All-weaker (IsPlaced file) (λ s. is_used s ≡ true) (λ s is. used_is s (omega (arith, is.prefix))) slots all
 
 hash_same : (file key : List ℕ) (slot : Slot) → has_key file key slot ≡ true → slot.hash ≡ hash_of key
 hash_same file key slot has = eqb-true slot.hash (hash_of key) (and_parts (slot.hash == hash_of key) (bytes_eq (key_at file slot.at) key) has).0

@@ -22,15 +22,15 @@ damage_if test damage = if test then Some damage else None
 abbrev pub is_short : List ℕ → Bool
 is_short file = nat_lt (length file) 2048
 
--- the slots of a table end behind the file
+-- the slots of a table end after the file
 unfoldable pub is_table_out : List ℕ → ℕ → Bool
 is_table_out file table = nat_lt 0 (slots_in file table) && nat_lt (length file) (table_at file table + 8 * slots_in file table)
 
--- a slot names a place in the header, or one whose two lengths end behind the file
+-- a slot names a place in the header, or one whose two lengths end after the file
 unfoldable pub is_slot_out : List ℕ → Slot → Bool
 is_slot_out file slot = is_used slot && (nat_lt slot.at 2048 || nat_lt (length file) (slot.at + 8))
 
--- the key or the value of the record that a slot names ends behind the file
+-- the key or the value of the record that a slot names ends after the file
 unfoldable pub is_record_out : List ℕ → Slot → Bool
 is_record_out file slot = is_used slot && nat_lt (length file) (slot.at + 8 + key_length file slot.at + value_length file slot.at)
 

@@ -32,7 +32,7 @@ has_key file key slot = (slot.hash == hash_of key) && bytes_eq (key_at file slot
 unfoldable pub held : List ℕ → List ℕ → Option ℕ
 held file key = option_map (λ slot. slot.at) (find (has_key file key) (reached (table_of file (hash_of key % 256)) (hash_of key)))
 
--- where the value of a record stands
+-- where the value of a record is
 abbrev pub value_span : List ℕ → ℕ → Span
 value_span file at = record { start = at + 8 + key_length file at; end = at + 8 + key_length file at + value_length file at }
 

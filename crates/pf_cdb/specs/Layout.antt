@@ -1,5 +1,5 @@
--- Where the parts of a cdb file stand (D. J. Bernstein, A structure for constant databases; cdb(5)). Each definition says something of
--- any bytes and any place: behind the end of a file its numbers are those of the bytes that there are.
+-- Where the parts of a cdb file are (D. J. Bernstein, A structure for constant databases; cdb(5)). Each definition says something of
+-- any bytes and any place: after the end of a file its numbers are those of the bytes that there are.
 use Rattle.std.specs.Prelude.{ℕ, ◌+◌, ◌*◌, List, map, take, drop}
 use Rattle.std.specs.Int.{from_le_bytes, w32}
 use Rattle.std.specs.List.{range_with_len}
@@ -10,7 +10,7 @@ use Rattle.pf_cdb.specs.declared.layout.Slot.{Slot}
 unfoldable pub word : List ℕ → ℕ → ℕ
 word file at = from_le_bytes w32 (take 4 (drop at file))
 
--- the header has a pair for each of the tables 0 to 255: where its slots stand, and how many they are
+-- the header has a pair for each of the tables 0 to 255: where its slots are, and how many they are
 abbrev pub table_at : List ℕ → ℕ → ℕ
 table_at file table = word file (8 * table)
 

@@ -11,7 +11,7 @@ TablesLie file = (table : ℕ) → table < 256 → 0 < slots_in file table → t
 abbrev pub EachUsed : List ℕ → (ℕ → ℕ → Type 0) → Type 0
 EachUsed file P = (table i : ℕ) → table < 256 → i < slots_in file table → (slot_of file table i).at ≢ 0 → P table i
 
--- its record begins behind the header, and the two lengths lie within the file
+-- its record begins after the header, and the two lengths lie within the file
 abbrev pub SlotsLie : List ℕ → Type 0
 SlotsLie file = EachUsed file (λ table i. let at = (slot_of file table i).at in (2048 ≤ at) × (at + 8 ≤ length file))
 

@@ -1,5 +1,5 @@
 -- The bytes of the file that is written for some pairs (D. J. Bernstein, A structure for constant databases; cdb(5)). The order of the records,
--- the size of a table, where an empty table would stand and the greatest size follow the tool cdb of tinycdb; the last is postgate's own.
+-- the size of a table, where an empty table would be and the greatest size follow the tool cdb of tinycdb; the last is postgate's own.
 use Rattle.std.specs.Prelude.{ℕ, ◌+◌, ◌*◌, ◌/◌, ◌%◌, ◌==◌, ◌≢◌, Bool, not, nat_lt, List, [], ◌∷◌, ◌++◌, length, map, replicate, slice_set, AllPairs, flat_map, filter, fold, sum_by, bytes_eq, Result, Ok, Err, if◌then◌else◌}
 use Rattle.std.specs.Int.{to_le_bytes, w32}
 use Rattle.std.specs.List.{prefix_len, range_with_len}
@@ -28,7 +28,7 @@ record_size pair = 8 + length pair.key + length pair.value
 abbrev pub record_bytes : Pair → List ℕ
 record_bytes pair = bytes_of (length pair.key) ++ (bytes_of (length pair.value) ++ (pair.key ++ pair.value))
 
--- the records stand one behind the other, and each has a slot
+-- the records stand one after the other, and each has a slot
 abbrev pub placed : ℕ → List Pair → List Slot
 placed at [] = []
 placed at (pair ∷ pairs) = record { hash = hash_of pair.key; at = at } ∷ placed (at + record_size pair) pairs
@@ -61,7 +61,7 @@ slot_bytes slot = bytes_of slot.hash ++ bytes_of slot.at
 abbrev pub table_bytes : List Slot → List ℕ
 table_bytes slots = flat_map slot_bytes slots
 
--- of each table in turn its place and its length; an empty one has the place where it would stand
+-- of each table in turn its place and its length; an empty one has the place where it would be
 abbrev pub header_bytes : ℕ → List (List Slot) → List ℕ
 header_bytes at [] = []
 header_bytes at (table ∷ tables) = bytes_of at ++ (bytes_of (length table) ++ header_bytes (at + 8 * length table) tables)

@@ -12,7 +12,7 @@ use crate::layout::{
     HEADER_SIZE, LENGTHS_SIZE, SLOT_SIZE, Slot, TABLES, key_at, slot_at, slots_in, table_at, word,
 };
 
-// Whether the slots of a table end behind the file.
+// Whether the slots of a table end after the file.
 #[tactic(auto, unfolding(crate::specs::Damaged::is_table_out))]
 fn is_table_out(file: &[u8], table: u32) -> bool
     requires header { 2048 ≤ length file.now }
@@ -23,7 +23,7 @@ fn is_table_out(file: &[u8], table: u32) -> bool
     slots > 0 && table_at(file, table) as usize + SLOT_SIZE * slots > file.len()
 }
 
-// Whether a slot names a place where no record can stand.
+// Whether a slot names a place where no record can be.
 #[tactic(auto, unfolding(crate::specs::Damaged::is_slot_out))]
 fn is_slot_out(file: &[u8], slot: Slot) -> bool
     ensures { result ≡ spec.is_slot_out file.now slot }
@@ -32,7 +32,7 @@ fn is_slot_out(file: &[u8], slot: Slot) -> bool
     at != 0 && (at < HEADER_SIZE || at + LENGTHS_SIZE > file.len())
 }
 
-// Whether the key or the value that a slot names ends behind the file.
+// Whether the key or the value that a slot names ends after the file.
 #[tactic(auto, unfolding(crate::specs::Damaged::is_record_out))]
 fn is_record_out(file: &[u8], slot: Slot) -> bool
     requires { slot.at ≢ 0 → slot.at + 8 ≤ length file.now }

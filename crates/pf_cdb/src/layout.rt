@@ -1,4 +1,4 @@
-//! Where the parts of a file stand.
+//! Where the parts of a file are.
 ghost use Rattle.std.specs.Prelude.{◌≡◌, ◌+◌, ◌*◌, ◌<◌, ◌≤◌, length};
 ghost use Rattle.pf_cdb.specs.Held as held;
 ghost use Rattle.pf_cdb.specs.Layout as spec;
@@ -32,7 +32,7 @@ pub(crate) fn word(file: &[u8], at: usize) -> u32
     u32::from_le_bytes([file[at], file[at + 1], file[at + 2], file[at + 3]])
 }
 
-/// Where the slots of a table stand.
+/// Where the slots of a table are.
 pub(crate) fn table_at(file: &[u8], table: u32) -> u32
     requires header { 2048 ≤ length file.now }
     requires table { table < 256 }
@@ -74,7 +74,7 @@ pub(crate) fn key_at(file: &[u8], at: u32) -> &[u8]
     &file[start..end]
 }
 
-/// Where the value of the record at a place stands.
+/// Where the value of the record at a place is.
 pub(crate) fn value_span(file: &[u8], at: u32) -> Span
     requires { at + 8 ≤ length file.now }
     ensures { result ≡ held.value_span file.now at }

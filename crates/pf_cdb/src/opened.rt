@@ -30,7 +30,7 @@ impl Model for CdbFile {
     ghost invariant = { λ file. IsSound file.bytes };
 }
 
-// Whether a null byte stands at the end of a text.
+// Whether a null byte is at the end of a text.
 #[tactic(auto, unfolding(crate::specs::Asked::ends_in_null))]
 fn ends_in_null(text: &[u8]) -> bool
     ensures { result ≡ asked.ends_in_null text.now }
@@ -94,7 +94,7 @@ impl CdbFile {
         }
     }
 
-    /// The value of a key, else that of the key with a null byte behind it, less the null byte behind the value (postmap(1), -N and -n).
+    /// The value of a key, else that of the key with a null byte after it, less the null byte after the value (postmap(1), -N and -n).
     #[tactic(auto, unfolding(crate::specs::Asked::answer_of))]
     pub fn answer(&self, alloc: Global, key: &[u8]) -> Result<Option<&[u8]>, NoMemory>
         ensures { IfOk result (λ answer. option_copied answer ≡ asked.answer_of (elements_of self.now) key.now) }
@@ -116,7 +116,7 @@ impl CdbFile {
     {
         elements(alloc, self.bytes.as_slice())
     }
-    /// Its pairs as they are listed, in the order of their records: without the null bytes behind a key and its value, where
+    /// Its pairs as they are listed, in the order of their records: without the null bytes after a key and its value, where
     /// both have one.
     pub fn listed(&self, alloc: Global) -> Result<List<Pair>, NoMemory>
         ensures { IfOk result (λ pairs. pairs ≡ map asked.listed_pair (elements_of self.now)) }

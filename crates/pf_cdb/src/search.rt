@@ -40,7 +40,7 @@ pub(crate) fn find_record(file: &[u8], key: &[u8]) -> Option<u32>
     None
 }
 
-// Where the value of a key stands.
+// Where the value of a key is.
 fn find_span(file: &[u8], key: &[u8]) -> Option<Span>
     requires { IsSound file.now }
     ensures span { result ≡ option_map (value_span file.now) (held file.now key.now) }
@@ -52,7 +52,7 @@ fn find_span(file: &[u8], key: &[u8]) -> Option<Span>
     }
 }
 
-/// Where the value of a key stands in a file that `check` accepts; None where the file has no such key. It takes no memory.
+/// Where the value of a key is in a file that `check` accepts; None where the file has no such key. It takes no memory.
 pub fn find(file: &[u8], key: &[u8]) -> Option<Span>
     requires { IsSound file.now }
     ensures span { result ≡ option_map (value_span file.now) (held file.now key.now) }

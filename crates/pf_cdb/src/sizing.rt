@@ -5,7 +5,7 @@ ghost use Rattle.pf_cdb.specs.Written as spec;
 use crate::layout::{HEADER_SIZE, LENGTHS_SIZE, SLOT_SIZE};
 use pf_base::{FILE_LIMIT, List, Pair};
 
-// Where the record of an entry and its two slots end, if they begin at `at`; None where that is behind the greatest file.
+// Where the record of an entry and its two slots end, if they begin at `at`; None where that is after the greatest file.
 fn entry_end(at: u64, pair: &Pair) -> Option<u64>
     requires { at ≤ 67108864 }
     ensures some { IfSome result (λ end. (end ≡ at + (spec.record_size pair.now + 16)) × (end ≤ 67108864)) }

@@ -1,6 +1,6 @@
 //! A place in bytes.
 
-/// Where a part of some bytes stands: from `start` up to before `end`, counted from 0.
+/// Where a part of some bytes is: from `start` up to before `end`, counted from 0.
 #[derive(Clone, Copy, Debug, PartialEq, Eq)]
 pub struct Span {
     pub start: u64,

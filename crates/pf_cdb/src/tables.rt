@@ -74,7 +74,7 @@ fn table_end(at: u64, slots: usize) -> u64
     at + SLOT_SIZE as u64 * slots as u64
 }
 
-/// Adds the header for tables of which the first stands at `start`.
+/// Adds the header for tables of which the first is at `start`.
 pub(crate) fn add_header(file: &mut Bytes, tables: &[Vec<Slot>], start: u64) -> Result<(), NoMemory>
     requires { start + spec.tables_size (slot_lists tables.now) ≤ 67108864 }
     ensures { OnOk result (file.new ≡ file.old ++ spec.header_bytes start (slot_lists tables.now)) }

@@ -1,6 +1,6 @@
 //! Files that are written pair by pair.
 ghost use Rattle.std.specs.Prelude.{◌≡◌, ◌+◌, ◌*◌, ◌<◌, ◌≤◌, ◌++◌, ℕ, List, true, false, [], ◌∷◌, length, map, IfOk, OnOk, None, Err, bytes_eq, find, replicate};
-ghost use Rattle.pf_cdb.specs.Clauses.Adding.{IsFront, pairs_at};
+ghost use Rattle.pf_cdb.specs.Clauses.Adding.{IsPrefix, pairs_at};
 ghost use Rattle.pf_cdb.specs.Damaged.{first_damage};
 ghost use Rattle.pf_cdb.specs.Held.{elements_of};
 ghost use Rattle.pf_cdb.specs.Sound.{IsSound};
@@ -26,13 +26,13 @@ pub struct Writer {
 impl Model for Writer {
     ghost use Rattle.std.specs.Prelude.{List as Seq};
     ghost use Rattle.pf_base.specs.declared.pair.Pair.{Pair};
-    ghost use Rattle.pf_cdb.specs.Clauses.Adding.{IsFront, pairs_at};
+    ghost use Rattle.pf_cdb.specs.Clauses.Adding.{IsPrefix, pairs_at};
 
     ghost Value = { Seq Pair };
 
     ghost view = { λ writer. pairs_at writer.file writer.slots.items };
 
-    ghost invariant = { λ writer. IsFront writer.file writer.slots.items };
+    ghost invariant = { λ writer. IsPrefix writer.file writer.slots.items };
 }
 
 // Room for a header.
@@ -46,7 +46,7 @@ fn header_room(alloc: Global) -> Result<Bytes, NoMemory>
     Ok(file)
 }
 
-// Whether a record that begins at `at`, behind so many others, leaves room for the slots of all.
+// Whether a record that begins at `at`, after so many others, leaves room for the slots of all.
 fn has_room(at: u64, records: usize, key: &[u8], value: &[u8]) -> bool
     requires { at + 16 * records ≤ 67108864 }
     ensures yes { result ≡ true → at + 16 * records + (8 + length key.now + length value.now + 16) ≤ 67108864 }
@@ -71,7 +71,7 @@ fn add_record(file: &mut Bytes, key: &[u8], value: &[u8]) -> Result<(), NoMemory
     file.extend(value)
 }
 
-// Adds a slot behind the others.
+// Adds a slot after the others.
 fn push_slot(slots: &mut Vec<Slot>, slot: Slot) -> Result<(), NoMemory>
     ensures { OnOk result (slots.new.items ≡ slots.old.items ++ slot ∷ []) }
 {
@@ -81,14 +81,14 @@ fn push_slot(slots: &mut Vec<Slot>, slot: Slot) -> Result<(), NoMemory>
 
 // Puts the header and the tables to the records.
 fn finished(alloc: Global, file: Bytes, slots: &[Slot]) -> Result<Bytes, NoMemory>
-    requires { IsFront file slots.now }
+    requires { IsPrefix file slots.now }
     ensures { IfOk result (λ whole. whole ≡ spec.written (pairs_at file slots.now)) }
 {
     let tables = tables_of(alloc, slots)?;
     let mut header = Bytes::new(alloc);
     add_header(&mut header, tables.as_slice(), file.len())?;
     let mut file = file;
-    file.put_front(header.as_slice());
+    file.put_prefix(header.as_slice());
     add_tables(&mut file, tables.as_slice())?;
     Ok(file)
 }

@@ -22,23 +22,23 @@ whole_v6 text groups written =
 
 -- where a text writes nothing, nothing is read of the whole of it
 module _ (Writes : List ℕ → List ℕ → Type 0) (text : List ℕ) (never : (parts : List ℕ) → ¬ (Writes text parts)) where
-  at_rest : (parts rest : List ℕ) → (front : List ℕ) × (text ≡ front ++ rest) × Writes front parts → whole_value (Some (parts, rest)) ≡ None
+  at_rest : (parts rest : List ℕ) → (prefix : List ℕ) × (text ≡ prefix ++ rest) × Writes prefix parts → whole_value (Some (parts, rest)) ≡ None
   at_rest parts [] sound = absurd (never parts (subst (λ t. Writes t parts) (sym (sound.1 ∙ append-nil sound.0)) sound.2))
   at_rest parts (b ∷ rest) sound = rw (ne_eqb (length (b ∷ rest)) 0 (omega arith))
 
-  pub no_whole : (read : Read (List ℕ)) → ((parts rest : List ℕ) → read ≡ Some (parts, rest) → (front : List ℕ) × (text ≡ front ++ rest) × Writes front parts)
+  pub no_whole : (read : Read (List ℕ)) → ((parts rest : List ℕ) → read ≡ Some (parts, rest) → (prefix : List ℕ) × (text ≡ prefix ++ rest) × Writes prefix parts)
       → whole_value read ≡ None
   no_whole None sound = refl
   no_whole (Some p) sound = at_rest p.0 p.1 (sound p.0 p.1 refl)
 
 -- what is read of the whole of it is what it writes
 module _ (Writes : List ℕ → List ℕ → Type 0) (text : List ℕ) where
-  ends_at : (parts rest other : List ℕ) → (front : List ℕ) × (text ≡ front ++ rest) × Writes front parts → whole_value (Some (parts, rest)) ≡ Some other → Writes text other
+  ends_at : (parts rest other : List ℕ) → (prefix : List ℕ) × (text ≡ prefix ++ rest) × Writes prefix parts → whole_value (Some (parts, rest)) ≡ Some other → Writes text other
   ends_at parts [] other sound is =
       subst (Writes text) (same_Some parts other is) (subst (λ t. Writes t parts) (sym (sound.1 ∙ append-nil sound.0)) sound.2)
   ends_at parts (b ∷ rest) other sound is = absurd (none-some other (rw (ne_eqb (length (b ∷ rest)) 0 (omega arith)) at is))
 
-  whole_sound : (read : Read (List ℕ)) → ((parts rest : List ℕ) → read ≡ Some (parts, rest) → (front : List ℕ) × (text ≡ front ++ rest) × Writes front parts)
+  whole_sound : (read : Read (List ℕ)) → ((parts rest : List ℕ) → read ≡ Some (parts, rest) → (prefix : List ℕ) × (text ≡ prefix ++ rest) × Writes prefix parts)
       → (other : List ℕ) → whole_value read ≡ Some other → Writes text other
   whole_sound None sound other is = absurd (none-some other is)
   whole_sound (Some p) sound other is = ends_at p.0 p.1 other (sound p.0 p.1 refl) is

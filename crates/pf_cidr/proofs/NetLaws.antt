@@ -128,7 +128,7 @@ decimal_sound most text n fits is =
     (λ high. absurd (none-some n (rw (decimal_text, high) at is))))
     (λ other. absurd (none-some n (rw other at is)))
 
--- a text before a slash, and what stands behind it
+-- a text before a slash, and what is after it
 place_here : (host rest : List ℕ) → list_any is_slash host ≡ false → position_or_len is_slash (host ++ (47 ∷ rest)) ≡ length host
 place_here [] rest none = refl
 place_here (b ∷ host) rest none =

@@ -15,12 +15,12 @@ use Rattle.pf_cidr.specs.declared.reason.Reason.TheVariants as reason
 use Rattle.pf_cidr.specs.declared.table.Reading.{Reading}
 use Rattle.pf_cidr.proofs.Cases.{either_list, either_way}
 
--- what comes of lines behind what was read
+-- what comes of lines after what was read
 abbrev pub goes_on : Reading → List Logical → Result Table (ℕ × Reason)
 goes_on r [] = finished r r.pending
 goes_on r (logical ∷ lines) = at_line logical.line (takes r logical.line logical.text) >>= λ next. goes_on next lines
 
--- the first condition that is never closed, of those that are open and those of lines behind
+-- the first condition that is never closed, of those that are open and those of lines after
 abbrev first_open : List ℕ → List Line → Option ℕ
 first_open [] lines = first_unclosed lines
 first_open (number ∷ pending) lines = if closes (length pending) (entries_of lines) then first_unclosed lines else Some number
@@ -98,7 +98,7 @@ closed_is r first pending is =
     let one : suc (length pending) - 1 ≡ length pending = omega arith in
     rw (is, ne_eqb (length (first ∷ pending)) 0 (omega arith), one)
 
--- a line in front of others
+-- a line before others
 with_line : (r next : Reading) (line : Line) (lines : Result (List Line) (ℕ × Reason)) → ((rest : List Line) → behind next rest ≡ behind r (line ∷ rest))
     → (lines >>= behind next) ≡ ((lines >>= λ rest. Ok (line ∷ rest)) >>= behind r)
 with_line r next line (Ok rest) same = same rest
@@ -156,7 +156,7 @@ all_behind (Err why) = refl
 pub table_is : (lines : List Logical) → goes_on start lines ≡ table_with lines
 table_is lines = goes start lines ∙ all_behind (lines_of zero lines)
 
--- behind a line that is taken the others go on
+-- after a line that is taken the others go on
 pub taken_at : (lines : List Logical) (r next : Reading) (i : ℕ) (logical : Logical) → i < length lines → logical ≡ get_or lines i logical
     → takes r logical.line logical.text ≡ Ok next → goes_on r (drop i lines) ≡ goes_on next (drop (i + 1) lines)
 taken_at lines r next i logical within at is =
@@ -170,6 +170,6 @@ refused_at lines r i logical why within at led is =
     let first : drop i lines ≡ logical ∷ drop (i + 1) lines = drop_more lines i logical within ∙ ap (λ l. l ∷ drop (i + 1) lines) (sym at) in
     sym (table_is lines) ∙ led ∙ rw (first, is)
 
--- behind the last line the table is what was read
+-- after the last line the table is what was read
 pub all_taken : (lines : List Logical) (r : Reading) (i : ℕ) → length lines ≤ i → goes_on start lines ≡ goes_on r (drop i lines) → table_with lines ≡ finished r r.pending
 all_taken lines r i past led = sym (table_is lines) ∙ led ∙ rw (drop_all i lines past)

@@ -42,11 +42,11 @@ first_bits prefix addr = bits_of addr / 2 ^ (width addr - prefix)
 abbrev pub net_has : Network → Addr → Bool
 net_has net addr = same_family net.addr addr && first_bits net.prefix addr == first_bits net.prefix net.addr
 
--- a bit behind the prefix is set
+-- a bit after the prefix is set
 abbrev pub has_host_bits : Network → Bool
 has_host_bits net = not (bits_of net.addr % 2 ^ (width net.addr - net.prefix) == 0)
 
--- the address of a net as it is written: one of IPv6 may stand in brackets
+-- the address of a net as it is written: one of IPv6 may be in brackets
 pub data IsHost (text : List ℕ) (addr : Addr) : Type 0 where
   plain : IsWritten text addr → IsHost text addr
   bracketed : (inside : List ℕ) (bits : ℕ) → IsWritten inside addr → addr ≡ V6 bits →
@@ -74,7 +74,7 @@ if_v6 (V6 bits) = Some (V6 bits)
 abbrev pub is_in_brackets : List ℕ → Bool
 is_in_brackets text = nat_le 2 (length text) && slice_index text 0 == ascii.left_bracket && slice_index text (length text - 1) == ascii.right_bracket
 
--- the address of a net: one of IPv6 may stand in brackets
+-- the address of a net: one of IPv6 may be in brackets
 unfoldable pub host_of : List ℕ → Option Addr
 host_of text = if is_in_brackets text then option_and_then if_v6 (address_of (slice_range text 1 (length text - 1))) else address_of text
 

@@ -1,4 +1,4 @@
--- Tables of nets (cidr_table(5)). That an address of the other family matches a pattern behind `!`, and the words of the reasons, are
+-- Tables of nets (cidr_table(5)). That an address of the other family matches a pattern after `!`, and the words of the reasons, are
 -- postgate's own.
 use Rattle.std.specs.Prelude.{ℕ, zero, suc, ◌==◌, Bool, true, false, not, List, [], ◌∷◌, Option, Some, None, Result, Ok, Err, codes, length, map, take, drop, slice_index, if◌then◌else◌}
 use Rattle.std.specs.List.{flat_map, list_all, position_from, position_or_len}
@@ -44,7 +44,7 @@ abbrev pub pattern_of : List ℕ → Result Pattern Reason
 pattern_of text =
     if slice_index text 0 == ascii.exclamation_mark then pattern_with true (net_of (drop 1 text)) else pattern_with false (net_of text)
 
--- a pattern matches the addresses of its net, or behind `!` all others
+-- a pattern matches the addresses of its net, or after `!` all others
 abbrev pub matches : Addr → Pattern → Bool
 matches addr pattern = if pattern.negated then not (net_has pattern.net addr) else net_has pattern.net addr
 
@@ -52,7 +52,7 @@ matches addr pattern = if pattern.negated then not (net_has pattern.net addr) el
 abbrev pub word_of : List ℕ → List ℕ
 word_of text = take (position_or_len is_space text) text
 
--- what stands behind its first word
+-- what is after its first word
 abbrev pub value_of : List ℕ → List ℕ
 value_of text = trimmed (drop (position_or_len is_space text) text)
 
@@ -74,7 +74,7 @@ entry_of text =
     if same_in_any_case (trimmed text) (codes "endif") then Ok Endif
     else (if same_in_any_case (word_of text) (codes "if") then condition_of text else rule_of text)
 
--- a line with its number, what it says, and what stands behind its first word
+-- a line with its number, what it says, and what is after its first word
 pub record Line : Type 0 where
   pub number : ℕ
   pub entry : Entry
@@ -85,14 +85,14 @@ abbrev pub at_line : {A : Type 0} → ℕ → Result A Reason → Result A (ℕ 
 at_line number (Ok x) = Ok x
 at_line number (Err why) = Err (number, why)
 
--- how many conditions are open behind a line
+-- how many conditions are open after a line
 abbrev pub open_behind : ℕ → Entry → Result ℕ Reason
 open_behind pending (Rule pattern) = Ok pending
 open_behind pending (If pattern) = Ok (suc pending)
 open_behind zero Endif = Err reason.EndifWithoutIf
 open_behind (suc pending) Endif = Ok pending
 
--- the lines behind so many conditions that are open, or the first of them that is refused
+-- the lines after so many conditions that are open, or the first of them that is refused
 abbrev pub lines_of : ℕ → List Logical → Result (List Line) (ℕ × Reason)
 lines_of pending [] = Ok []
 lines_of pending (logical ∷ lines) = do
@@ -101,7 +101,7 @@ lines_of pending (logical ∷ lines) = do
   rest ← lines_of behind lines
   Ok (record { number = logical.line; entry = entry; value = value_of logical.text } ∷ rest)
 
--- whether a condition is closed by what stands behind it, where so many further ones are open in it
+-- whether a condition is closed by what is after it, where so many further ones are open in it
 abbrev pub closes : ℕ → List Entry → Bool
 closes inner [] = false
 closes inner (Rule pattern ∷ entries) = closes inner entries
@@ -112,7 +112,7 @@ closes (suc inner) (Endif ∷ entries) = closes inner entries
 abbrev pub entries_of : List Line → List Entry
 entries_of lines = map (λ line. line.entry) lines
 
--- a condition that nothing behind it closes
+-- a condition that nothing after it closes
 abbrev pub is_unclosed : Entry → List Entry → Bool
 is_unclosed (Rule pattern) behind = false
 is_unclosed (If pattern) behind = not (closes zero behind)
@@ -142,7 +142,7 @@ abbrev pub unless_unclosed : List Line → Option ℕ → Result Table (ℕ × R
 unless_unclosed lines None = Ok (record { entries = entries_of lines; results = results_of lines })
 unless_unclosed lines (Some number) = Err (number, reason.IfWithoutEndif)
 
--- the table of logical lines: the first line that is refused counts, and a condition that is never closed behind all other reasons
+-- the table of logical lines: the first line that is refused counts, and a condition that is never closed after all other reasons
 abbrev pub table_with : List Logical → Result Table (ℕ × Reason)
 table_with logical = do
   lines ← lines_of zero logical

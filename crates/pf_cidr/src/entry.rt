@@ -9,7 +9,7 @@ use crate::net::Net;
 use crate::reason::Reason;
 use pf_base::{is_space, same_in_any_case, trimmed};
 
-/// A pattern: a net, or behind `!` all addresses but those of a net (cidr_table(5)).
+/// A pattern: a net, or after `!` all addresses but those of a net (cidr_table(5)).
 #[derive(Debug, Drop)]
 pub(crate) struct Pattern {
     negated: bool,
@@ -46,7 +46,7 @@ impl Pattern {
 /// What a line says.
 #[derive(Debug, Drop)]
 pub(crate) enum Entry {
-    /// A rule, whose result stands elsewhere.
+    /// A rule, whose result is elsewhere.
     Rule(Pattern),
     /// A condition of the lines up to its `endif`.
     If(Pattern),
@@ -54,7 +54,7 @@ pub(crate) enum Entry {
     Endif,
 }
 
-// How many bytes stand before the first space of a text.
+// How many bytes are before the first space of a text.
 fn word_len(text: &[u8]) -> usize
     ensures within { result ≤ length text.now }
     ensures place { result ≡ position_or_len space.is_space text.now }
@@ -68,7 +68,7 @@ fn word_of(text: &[u8]) -> &[u8]
     &text[..word_len(text)]
 }
 
-/// What stands behind the first word of a line.
+/// What is after the first word of a line.
 pub(crate) fn value_of(text: &[u8]) -> &[u8]
     ensures { result.now ≡ tables.value_of text.now }
 {

@@ -37,7 +37,7 @@ impl Model for Net {
 pub enum NetFault {
     /// It writes no net.
     Syntax,
-    /// A bit of its address behind the prefix is set.
+    /// A bit of its address after the prefix is set.
     HostBits,
 }
 
@@ -86,7 +86,7 @@ fn if_v6(addr: Addr) -> Option<Addr>
     }
 }
 
-// The address of a net: one of IPv6 may stand in brackets.
+// The address of a net: one of IPv6 may be in brackets.
 #[tactic(auto, unfolding(crate::specs::Nets::host_of))]
 fn host_of(text: &[u8]) -> Option<Addr>
     ensures { result ≡ nets.host_of text.now }
@@ -140,7 +140,7 @@ impl Net {
         }
     }
 
-    // Whether a bit of the address behind the prefix is set.
+    // Whether a bit of the address after the prefix is set.
     fn has_host_bits(&self) -> bool
         ensures { result ≡ nets.has_host_bits self.now }
     {
@@ -150,9 +150,9 @@ impl Net {
         }
     }
 
-    /// The net that a text writes: an address, IPv6 in brackets or not, and behind a slash its prefix, a decimal number
+    /// The net that a text writes: an address, IPv6 in brackets or not, and after a slash its prefix, a decimal number
     /// without leading zeros; without a slash a net of one address (cidr_table(5)). `HostBits` comes exactly where the text
-    /// is such a net but for a bit behind its prefix that is set, `Syntax` where it is none.
+    /// is such a net but for a bit after its prefix that is set, `Syntax` where it is none.
     #[tactic(auto, unfolding(crate::specs::Nets::net_of))]
     pub fn read(text: &[u8]) -> Result<Net, NetFault>
         ensures is { result ≡ nets.net_of text.now }

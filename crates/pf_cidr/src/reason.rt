@@ -9,7 +9,7 @@ use crate::net::NetFault;
 pub(crate) enum Reason {
     /// A pattern is no address and no net.
     Pattern,
-    /// A bit of a pattern's address behind its prefix is set.
+    /// A bit of a pattern's address after its prefix is set.
     HostBits,
     /// A rule has no result.
     NoValue,

@@ -34,8 +34,8 @@ user_at_site local user site parts shorter h =
 behind_shorter : (local : List ℕ) (n : ℕ) → 0 < length (drop (n + 1) local) → length (drop (n + 1) local) < length local
 behind_shorter local n some = omega (arith, length-drop (n + 1) local)
 
-front_shorter : (local : List ℕ) (n : ℕ) → 0 < length (take (length local - n - 1) local) → length (take (length local - n - 1) local) < length local
-front_shorter local n some = omega (arith, length-take (length local - n - 1) local)
+prefix_shorter : (local : List ℕ) (n : ℕ) → 0 < length (take (length local - n - 1) local) → length (take (length local - n - 1) local) < length local
+prefix_shorter local n some = omega (arith, length-take (length local - n - 1) local)
 
 bang_parts : (local : List ℕ) (parts : Address) → at_bang local ≡ Some parts → ArePartsOf local parts
 unfolding at_bang
@@ -45,12 +45,12 @@ bang_parts local parts h =
 percent_parts : (local : List ℕ) (parts : Address) → at_percent local ≡ Some parts → ArePartsOf local parts
 unfolding at_percent
 percent_parts local parts h =
-    user_at_site local (before_last (λ b. b == 37) local) (after_last (λ b. b == 37) local) parts (front_shorter local (suffix_len (λ b. not (b == 37)) local)) h
+    user_at_site local (before_last (λ b. b == 37) local) (after_last (λ b. b == 37) local) parts (prefix_shorter local (suffix_len (λ b. not (b == 37)) local)) h
 
 at_parts : (local : List ℕ) (parts : Address) → at_at local ≡ Some parts → ArePartsOf local parts
 unfolding at_at
 at_parts local parts h =
-    user_at_site local (before_last (λ b. b == 64) local) (after_last (λ b. b == 64) local) parts (front_shorter local (suffix_len (λ b. not (b == 64)) local)) h
+    user_at_site local (before_last (λ b. b == 64) local) (after_last (λ b. b == 64) local) parts (prefix_shorter local (suffix_len (λ b. not (b == 64)) local)) h
 
 percent_rule : (rules : Rules) (local : List ℕ) (parts : Address) → (if rules.allow_percent_hack then at_percent local else None) ≡ Some parts → ArePartsOf local parts
 percent_rule rules local parts h =

@@ -8,7 +8,7 @@ ghost use Rattle.pf_class.specs.Standard.{address_of};
 
 use pf_base::{before_byte, behind_byte};
 
-// The place behind the last such byte, or 0 where there is none.
+// The place after the last such byte, or 0 where there is none.
 fn place_behind(text: &[u8], byte: u8) -> usize
     ensures within { result ≤ length text.now }
     ensures place { result ≡ length text.now - suffix_len (λ b. not (b == byte)) text.now }
@@ -20,14 +20,14 @@ fn place_behind(text: &[u8], byte: u8) -> usize
     end
 }
 
-// What stands before the last such byte; nothing where there is none.
+// What is before the last such byte; nothing where there is none.
 fn before_last(text: &[u8], byte: u8) -> &[u8]
     ensures { result.now ≡ list_before_last (λ b. b == byte) text.now }
 {
     &text[..place_behind(text, byte).saturating_sub(1)]
 }
 
-// What stands behind the last such byte; the whole text where there is none.
+// What is after the last such byte; the whole text where there is none.
 fn behind_last(text: &[u8], byte: u8) -> &[u8]
     ensures { result.now ≡ list_after_last (λ b. b == byte) text.now }
 {

@@ -33,7 +33,7 @@ fn without_closing_dot(domain: &[u8]) -> &[u8]
     ensures { result.now ≡ spec.without_closing_dot domain.now }
 {
     match domain {
-        [front @ .., b'.'] => front,
+        [prefix @ .., b'.'] => prefix,
         _ => domain,
     }
 }

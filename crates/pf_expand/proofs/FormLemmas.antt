@@ -1,4 +1,4 @@
--- The texts of a part, and the text behind it, are shorter than the text.
+-- The texts of a part, and the text after it, are shorter than the text.
 use Rattle.std.proofs.Common.{◌≡◌, ◌≢◌, ℕ, ◌+◌, ◌<◌, ◌≤◌, ◌==◌, ◌&&◌, Bool, suc, true, false, nat_lt, List, [], ◌∷◌, length, take, drop, Option, None, Some, IfSome, refl, arith, cond, if◌then◌else◌}
 use Rattle.std.proofs.lemmas.Bool.{eqb-false, ltb-true}
 use Rattle.std.proofs.lemmas.List.{length-drop, length-take-le}
@@ -163,7 +163,7 @@ parenthesised_size text =
       | false ↦ tt
     ]
 
--- a part and what is behind it are shorter than the text
+-- a part and what is after it are shorter than the text
 abbrev pub Shorter : List ℕ → Part × List ℕ → Type 0
 Shorter text cut = size cut.0 + length cut.1 < length text
 

@@ -2,20 +2,20 @@
 use Rattle.std.proofs.Common.{◌≡◌, ℕ, ◌+◌, ◌-◌, ◌<◌, ◌≤◌, ◌==◌, suc, drop, get_or, length, true, false, nat_lt, List, [], ◌∷◌, refl, sym, ap, ◌∙◌, arith, if◌then◌else◌}
 use Rattle.std.proofs.lemmas.Bool.{ltb-true, lt-ltb}
 use Rattle.std.proofs.Math.Seq.{drop-cons}
-use Rattle.pf_expand.proofs.ShapeLaws.{flaw_before, flaw_behind}
+use Rattle.pf_expand.proofs.SizeLaws.{flaw_before, flaw_behind}
 use Rattle.pf_expand.proofs.RunLaws.{first_flaw_assoc}
 use Rattle.pf_expand.specs.Expansion.{length_limit}
 use Rattle.pf_expand.specs.Clauses.Meanings.{Kept}
-use Rattle.pf_expand.specs.Clauses.Levels.{choice_behind, shape_named}
+use Rattle.pf_expand.specs.Clauses.Levels.{choice_behind, size_named}
 use Rattle.pf_expand.specs.Clauses.Runs.{behind, choice_name}
 use Rattle.pf_expand.specs.Clauses.RunsMeant.{depth_of}
-use Rattle.pf_expand.specs.Clauses.Shapes.{added, behind_choice, joined, long, run}
+use Rattle.pf_expand.specs.Clauses.Sizes.{added, behind_choice, joined, long, run}
 use Rattle.pf_expand.specs.declared.flaw.Flaw.TheVariants.{TooLong}
-use Rattle.pf_expand.specs.declared.lengths.Shapes.{Shapes}
+use Rattle.pf_expand.specs.declared.lengths.Sizes.{Sizes}
 use Rattle.pf_expand.specs.declared.run.Mode.{Mode}
 use Rattle.pf_expand.specs.declared.run.Mode.TheVariants.{Counts, ToOtherwise, ToEnd}
-use Rattle.pf_expand.specs.declared.shape.Shape.{Shape}
-use Rattle.pf_expand.specs.declared.shape.Shape.TheVariants.{Long, Flawed}
+use Rattle.pf_expand.specs.declared.size.Size.{Size}
+use Rattle.pf_expand.specs.declared.size.Size.TheVariants.{Long, Flawed}
 use Rattle.pf_expand.specs.declared.token.Token.{Token}
 use Rattle.pf_expand.specs.declared.token.Token.TheVariants.{Literal, Name, Choose, Otherwise, End}
 
@@ -39,19 +39,19 @@ long_assoc a b c =
     same : (a b c : ℕ) → a + b + c ≡ a + (b + c)
     same a b c = omega arith
 
-pub shape_assoc : (x y z : Shape) → joined (joined x y) z ≡ joined x (joined y z)
-shape_assoc (Long a) (Long b) (Long c) = long_assoc a b c
-shape_assoc (Long a) (Long b) (Flawed f) = sym (flaw_behind f (a + b))
-shape_assoc (Long a) (Flawed f) (Long c) = refl
-shape_assoc (Long a) (Flawed f) (Flawed g) = refl
-shape_assoc (Flawed f) (Long b) (Long c) = flaw_before f (b + c)
-shape_assoc (Flawed f) (Long b) (Flawed g) = refl
-shape_assoc (Flawed f) (Flawed g) (Long c) = refl
-shape_assoc (Flawed f) (Flawed g) (Flawed h) = ap Flawed (first_flaw_assoc f g h)
+pub size_assoc : (x y z : Size) → joined (joined x y) z ≡ joined x (joined y z)
+size_assoc (Long a) (Long b) (Long c) = long_assoc a b c
+size_assoc (Long a) (Long b) (Flawed f) = sym (flaw_behind f (a + b))
+size_assoc (Long a) (Flawed f) (Long c) = refl
+size_assoc (Long a) (Flawed f) (Flawed g) = refl
+size_assoc (Flawed f) (Long b) (Long c) = flaw_before f (b + c)
+size_assoc (Flawed f) (Long b) (Flawed g) = refl
+size_assoc (Flawed f) (Flawed g) (Long c) = refl
+size_assoc (Flawed f) (Flawed g) (Flawed h) = ap Flawed (first_flaw_assoc f g h)
 
 -- nothing more
-pub shape_nothing : (x y : Shape) → joined (joined x y) (Long 0) ≡ joined x y
-shape_nothing (Long a) (Long b) =
+pub size_nothing : (x y : Size) → joined (joined x y) (Long 0) ≡ joined x y
+size_nothing (Long a) (Long b) =
     (elim (nat_lt length_limit (a + b)) as (λ s. nat_lt length_limit (a + b) ≡ s → joined (if s then Flawed TooLong else Long (a + b)) (Long 0) ≡ (if s then Flawed TooLong else Long (a + b))) [
       | true ↦ λ p. refl
       | false ↦ λ p. ap long (same (a + b)) ∙ ap (λ t. if t then Flawed TooLong else Long (a + b)) p
@@ -59,22 +59,22 @@ shape_nothing (Long a) (Long b) =
   where
     same : (n : ℕ) → n + 0 ≡ n
     same n = omega arith
-shape_nothing (Long a) (Flawed f) = refl
-shape_nothing (Flawed f) (Long b) = refl
-shape_nothing (Flawed f) (Flawed g) = refl
+size_nothing (Long a) (Flawed f) = refl
+size_nothing (Flawed f) (Long b) = refl
+size_nothing (Flawed f) (Flawed g) = refl
 
 -- of a piece that is no name of a choice nothing is asked
-pub behind_same : (names : List (List ℕ × Kept)) (shapes : Shapes) (mode : Mode) (token : Token)
-    → behind (choice_behind names shapes token) mode token ≡ behind (behind_choice (shape_named names shapes (choice_name token))) mode token
-behind_same names shapes (ToOtherwise n) token = refl
-behind_same names shapes (ToEnd n) token = refl
-behind_same names shapes Counts (Literal bytes) = refl
-behind_same names shapes Counts (Name name) = refl
-behind_same names shapes Counts (Choose name) = refl
-behind_same names shapes Counts Otherwise = refl
-behind_same names shapes Counts End = refl
+pub behind_same : (names : List (List ℕ × Kept)) (sizes : Sizes) (mode : Mode) (token : Token)
+    → behind (choice_behind names sizes token) mode token ≡ behind (behind_choice (size_named names sizes (choice_name token))) mode token
+behind_same names sizes (ToOtherwise n) token = refl
+behind_same names sizes (ToEnd n) token = refl
+behind_same names sizes Counts (Literal bytes) = refl
+behind_same names sizes Counts (Name name) = refl
+behind_same names sizes Counts (Choose name) = refl
+behind_same names sizes Counts Otherwise = refl
+behind_same names sizes Counts End = refl
 
-nothing_before : (x y : Shape) → joined (Long 0) (joined x y) ≡ joined x y
+nothing_before : (x y : Size) → joined (Long 0) (joined x y) ≡ joined x y
 nothing_before (Long a) (Long b) =
     (elim (nat_lt length_limit (a + b)) as (λ s. nat_lt length_limit (a + b) ≡ s → joined (Long 0) (if s then Flawed TooLong else Long (a + b)) ≡ (if s then Flawed TooLong else Long (a + b))) [
       | true ↦ λ p. refl
@@ -88,23 +88,23 @@ nothing_before (Flawed f) (Long b) = refl
 nothing_before (Flawed f) (Flawed g) = refl
 
 -- nothing before pieces
-pub run_alone : (named : List ℕ → Shape) (mode : Mode) (tokens : List Token) → run named mode tokens ≡ joined (Long 0) (run named mode tokens)
+pub run_alone : (named : List ℕ → Size) (mode : Mode) (tokens : List Token) → run named mode tokens ≡ joined (Long 0) (run named mode tokens)
 run_alone named mode [] = refl
 run_alone named mode (token ∷ tokens) =
     sym (nothing_before (added named mode token) (run named (behind (behind_choice (named (choice_name token))) mode token) tokens))
 
 -- one piece more
-pub run_more : (names : List (List ℕ × Kept)) (shapes : Shapes) (tokens rest behind_it : List Token) (shape next : Shape) (mode after : Mode) (token : Token)
-    → run (shape_named names shapes) Counts tokens ≡ joined shape (run (shape_named names shapes) mode rest) → rest ≡ token ∷ behind_it
-    → next ≡ joined shape (added (shape_named names shapes) mode token) → after ≡ behind (choice_behind names shapes token) mode token
-    → run (shape_named names shapes) Counts tokens ≡ joined next (run (shape_named names shapes) after behind_it)
-run_more names shapes tokens rest behind_it shape next mode after token so_far is next_is after_is =
-    so_far ∙ ap (λ r. joined shape (run (shape_named names shapes) mode r)) is
-    ∙ ap (λ m. joined shape (joined (added (shape_named names shapes) mode token) (run (shape_named names shapes) m behind_it))) (sym (after_is ∙ behind_same names shapes mode token))
-    ∙ sym (shape_assoc shape (added (shape_named names shapes) mode token) (run (shape_named names shapes) after behind_it))
-    ∙ ap (λ x. joined x (run (shape_named names shapes) after behind_it)) (sym next_is)
+pub run_more : (names : List (List ℕ × Kept)) (sizes : Sizes) (tokens rest behind_it : List Token) (size next : Size) (mode after : Mode) (token : Token)
+    → run (size_named names sizes) Counts tokens ≡ joined size (run (size_named names sizes) mode rest) → rest ≡ token ∷ behind_it
+    → next ≡ joined size (added (size_named names sizes) mode token) → after ≡ behind (choice_behind names sizes token) mode token
+    → run (size_named names sizes) Counts tokens ≡ joined next (run (size_named names sizes) after behind_it)
+run_more names sizes tokens rest behind_it size next mode after token so_far is next_is after_is =
+    so_far ∙ ap (λ r. joined size (run (size_named names sizes) mode r)) is
+    ∙ ap (λ m. joined size (joined (added (size_named names sizes) mode token) (run (size_named names sizes) m behind_it))) (sym (after_is ∙ behind_same names sizes mode token))
+    ∙ sym (size_assoc size (added (size_named names sizes) mode token) (run (size_named names sizes) after behind_it))
+    ∙ ap (λ x. joined x (run (size_named names sizes) after behind_it)) (sym next_is)
 
--- the item at a place, and those behind it
+-- the item at a place, and those after it
 pub drop_item : (tokens : List Token) (i : ℕ) (token : Token) → i < length tokens → token ≡ get_or tokens i token → drop i tokens ≡ token ∷ drop (i + 1) tokens
 drop_item tokens i token within at =
     drop-cons tokens i token within
@@ -114,25 +114,25 @@ drop_item tokens i token within at =
     same : (i : ℕ) → suc i ≡ i + 1
     same i = omega arith
 
-choice_depth : (x : Shape) → depth_of (behind_choice x) ≡ 0
+choice_depth : (x : Size) → depth_of (behind_choice x) ≡ 0
 choice_depth (Long n) = elim (n == 0) as (λ t. depth_of (if t then ToOtherwise 0 else Counts) ≡ 0) [ true ↦ refl | false ↦ refl ]
 choice_depth (Flawed f) = refl
 
 -- each piece opens one choice at most
-pub depth_more : (names : List (List ℕ × Kept)) (shapes : Shapes) (mode : Mode) (token : Token)
-    → depth_of (behind (choice_behind names shapes token) mode token) ≤ depth_of mode + 1
-depth_more names shapes Counts (Literal bytes) = omega arith
-depth_more names shapes Counts (Name name) = omega arith
-depth_more names shapes Counts (Choose name) = omega (arith, choice_depth (shape_named names shapes name))
-depth_more names shapes Counts Otherwise = omega arith
-depth_more names shapes Counts End = omega arith
-depth_more names shapes (ToOtherwise n) (Literal bytes) = omega arith
-depth_more names shapes (ToOtherwise n) (Name name) = omega arith
-depth_more names shapes (ToOtherwise n) (Choose name) = omega arith
-depth_more names shapes (ToOtherwise n) Otherwise = elim (n == 0) as (λ t. depth_of (if t then Counts else ToOtherwise n) ≤ n + 1) [ true ↦ omega arith | false ↦ omega arith ]
-depth_more names shapes (ToOtherwise n) End = omega arith
-depth_more names shapes (ToEnd n) (Literal bytes) = omega arith
-depth_more names shapes (ToEnd n) (Name name) = omega arith
-depth_more names shapes (ToEnd n) (Choose name) = omega arith
-depth_more names shapes (ToEnd n) Otherwise = omega arith
-depth_more names shapes (ToEnd n) End = elim (n == 0) as (λ t. depth_of (if t then Counts else ToEnd (n - 1)) ≤ n + 1) [ true ↦ omega arith | false ↦ omega arith ]
+pub depth_more : (names : List (List ℕ × Kept)) (sizes : Sizes) (mode : Mode) (token : Token)
+    → depth_of (behind (choice_behind names sizes token) mode token) ≤ depth_of mode + 1
+depth_more names sizes Counts (Literal bytes) = omega arith
+depth_more names sizes Counts (Name name) = omega arith
+depth_more names sizes Counts (Choose name) = omega (arith, choice_depth (size_named names sizes name))
+depth_more names sizes Counts Otherwise = omega arith
+depth_more names sizes Counts End = omega arith
+depth_more names sizes (ToOtherwise n) (Literal bytes) = omega arith
+depth_more names sizes (ToOtherwise n) (Name name) = omega arith
+depth_more names sizes (ToOtherwise n) (Choose name) = omega arith
+depth_more names sizes (ToOtherwise n) Otherwise = elim (n == 0) as (λ t. depth_of (if t then Counts else ToOtherwise n) ≤ n + 1) [ true ↦ omega arith | false ↦ omega arith ]
+depth_more names sizes (ToOtherwise n) End = omega arith
+depth_more names sizes (ToEnd n) (Literal bytes) = omega arith
+depth_more names sizes (ToEnd n) (Name name) = omega arith
+depth_more names sizes (ToEnd n) (Choose name) = omega arith
+depth_more names sizes (ToEnd n) Otherwise = omega arith
+depth_more names sizes (ToEnd n) End = elim (n == 0) as (λ t. depth_of (if t then Counts else ToEnd (n - 1)) ≤ n + 1) [ true ↦ omega arith | false ↦ omega arith ]

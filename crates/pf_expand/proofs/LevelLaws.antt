@@ -4,7 +4,7 @@ use Rattle.std.proofs.lemmas.Bool.{ltb-true, ltb-false}
 use Rattle.std.proofs.lemmas.List.{length-drop}
 use Rattle.std.specs.List.{position}
 use Rattle.pf_base.specs.declared.meaning.Meaning.TheVariants.{Is, DomainOf}
-use Rattle.pf_expand.proofs.ShapeLaws.{Limited}
+use Rattle.pf_expand.proofs.SizeLaws.{Limited}
 use Rattle.pf_expand.specs.Expansion.{Answer, content, joined, length_limit, within_limit}
 use Rattle.pf_expand.specs.Clauses.Meanings.{Kept, level_value, meaning_of, meaning_value}
 use Rattle.pf_expand.specs.Names.{domain_in, domain_of, past_dot}
@@ -74,7 +74,7 @@ both (Ok a) (Err g) bytes e = cc
 both (Err f) (Ok b) bytes e = cc
 both (Err f) (Err g) bytes e = cc
 
--- what a piece adds is the same, and so is what counts behind it
+-- what a piece adds is the same, and so is what counts after it
 pub record Alike (v w : List ℕ → Answer) (mode : Mode) (token : Token) : Type 0 where
   pub adds : added w mode token ≡ added v mode token
   pub behind_it : behind (behind_choice (w (choice_name token))) mode token ≡ behind (behind_choice (v (choice_name token))) mode token

@@ -7,7 +7,7 @@ pub mod PartingLemmas
 pub mod RoundLaws
 pub mod Rows
 pub mod RunLaws
-pub mod ShapeLaws
+pub mod SizeLaws
 pub mod SourceLaws
 pub mod StableLaws
 pub mod ValueLaws

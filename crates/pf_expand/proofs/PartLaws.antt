@@ -25,7 +25,7 @@ parts_enough (suc n) (suc m) (b ∷ text) h k = same (parts_enough n m) (first_p
   same enough (Some (part.choice name full empty, rest)) s =
       rw (enough full (omega (arith, h, s)) (omega (arith, k, s)), enough empty (omega (arith, h, s)) (omega (arith, k, s)), enough rest (omega (arith, h, s)) (omega (arith, k, s))) refl
 
--- a text that is not empty is its first part and what stands behind it
+-- a text that is not empty is its first part and what is after it
 pub parts_step : (b : ℕ) (text : List ℕ) → parts_of (b ∷ text) ≡ option_and_then (parts_with parts_of) (first_part (b ∷ text))
 unfolding parts
 parts_step b text = same (first_part (b ∷ text)) (first_part_size (b ∷ text)) where
@@ -36,7 +36,7 @@ parts_step b text = same (first_part (b ∷ text)) (first_part_size (b ∷ text)
   same (Some (part.choice name full empty, rest)) s =
       rw (parts_enough (length text) (length full) full (omega (arith, s)) (omega arith), parts_enough (length text) (length empty) empty (omega (arith, s)) (omega arith), parts_enough (length text) (length rest) rest (omega (arith, s)) (omega arith)) refl
 
--- the pieces of a part and of what stands behind it
+-- the pieces of a part and of what is after it
 abbrev pub part_gives : Part × List ℕ → Option (List Token)
 part_gives (part.literal bytes, rest) = before (Some (Literal bytes ∷ [])) (tokens_of rest)
 part_gives (part.name name, rest) = before (Some (Name name ∷ [])) (tokens_of rest)

@@ -38,7 +38,7 @@ takes_bad tokens left text n e = record {
   less = λ t. absurd (false≢true t);
 }
 
--- a part of one piece, with the text behind it
+-- a part of one piece, with the text after it
 pub takes_piece : (tokens new_tokens : List Token) (left new_left : List Left) (text rest : List ℕ) (p : Part) (token : Token)
     → text ≢ [] → first_part text ≡ Some (p, rest) → part_gives (p, rest) ≡ before (Some (token ∷ [])) (tokens_of rest)
     → new_tokens ≡ tokens ++ (token ∷ []) → gives new_left ≡ before (tokens_of rest) (gives left) → weighs new_left ≡ weighs left + (2 * length rest + 1)
@@ -64,7 +64,7 @@ one_more_weighs left new one e =
     let sum = ap weighs e ∙ sum_by-append one_weighs left (one ∷ []) in
     omega (arith, sum)
 
--- a choice, with the text behind it
+-- a choice, with the text after it
 pub takes_choice : (tokens new_tokens : List Token) (left new_left : List Left) (text name full empty rest : List ℕ)
     → text ≢ [] → first_part text ≡ Some (part.choice name full empty, rest) → new_tokens ≡ tokens ++ (Choose name ∷ [])
     → gives new_left ≡ before (tokens_of full) (before (Some (Otherwise ∷ [])) (before (tokens_of empty) (before (Some (End ∷ [])) (before (tokens_of rest) (gives left)))))

@@ -10,24 +10,24 @@ use Rattle.std.specs.Option.{unwrap_or}
 use Rattle.std.specs.Str.{bytes_eq}
 use Rattle.pf_base.specs.declared.meaning.Meaning.TheVariants.{Is}
 use Rattle.pf_expand.proofs.LevelLaws.{level_limit}
-use Rattle.pf_expand.proofs.ShapeLaws.{run_shape}
+use Rattle.pf_expand.proofs.SizeLaws.{run_size}
 use Rattle.pf_expand.specs.Expansion.{Answer, content, length_limit, within_limit}
-use Rattle.pf_expand.specs.Clauses.Levels.{AreShapes, shape_at, shape_named}
+use Rattle.pf_expand.specs.Clauses.Levels.{AreSizes, size_at, size_named}
 use Rattle.pf_expand.specs.Clauses.Meanings.{Kept, level_value, meaning_in, meaning_of, meaning_value, place_in}
 use Rattle.pf_expand.specs.Names.{domain_in, domain_of}
 use Rattle.pf_expand.specs.Clauses.Runs as runs
-use Rattle.pf_expand.specs.Clauses.Shapes.{long, run, shape_of}
+use Rattle.pf_expand.specs.Clauses.Sizes.{long, run, size_of}
 use Rattle.pf_expand.specs.declared.flaw.Flaw.{Flaw}
 use Rattle.pf_expand.specs.declared.flaw.Flaw.TheVariants.{TooDeep, TooLong}
-use Rattle.pf_expand.specs.declared.lengths.Shapes.{Shapes}
+use Rattle.pf_expand.specs.declared.lengths.Sizes.{Sizes}
 use Rattle.pf_expand.specs.declared.run.Mode.TheVariants.{Counts}
-use Rattle.pf_expand.specs.declared.shape.Shape.TheVariants.{Long, Flawed}
+use Rattle.pf_expand.specs.declared.size.Size.TheVariants.{Long, Flawed}
 use Rattle.pf_expand.specs.declared.token.Token.{Token}
 
 -- a value above the limit has the shape of one that is too long
-limited_alike : (x : Answer) → shape_of (within_limit x) ≡ shape_of x
+limited_alike : (x : Answer) → size_of (within_limit x) ≡ size_of x
 limited_alike (Ok bytes) =
-    (elim (nat_lt length_limit (length bytes)) as (λ t. nat_lt length_limit (length bytes) ≡ t → shape_of (unless_long t bytes) ≡ shape_of (Ok bytes)) [
+    (elim (nat_lt length_limit (length bytes)) as (λ t. nat_lt length_limit (length bytes) ≡ t → size_of (unless_long t bytes) ≡ size_of (Ok bytes)) [
       | true ↦ λ p. sym (ap (λ t. if t then Flawed TooLong else Long (length bytes)) p)
       | false ↦ λ p. refl
     ]) refl
@@ -37,20 +37,20 @@ limited_alike (Ok bytes) =
 limited_alike (Err flaw) = refl
 
 -- the shape of a text in its pieces
-pub text_shape : (names : List (List ℕ × Kept)) (shapes : Shapes) (tokens : List Token) → AreShapes names shapes
-    → run (shape_named names shapes) Counts tokens ≡ shape_of (within_limit (runs.run (level_value names shapes.levels) Counts tokens))
-text_shape names shapes tokens are =
-    run_shape (level_value names shapes.levels) (shape_named names shapes) are (level_limit names shapes.levels) Counts tokens
-    ∙ sym (limited_alike (runs.run (level_value names shapes.levels) Counts tokens))
+pub text_size : (names : List (List ℕ × Kept)) (sizes : Sizes) (tokens : List Token) → AreSizes names sizes
+    → run (size_named names sizes) Counts tokens ≡ size_of (within_limit (runs.run (level_value names sizes.levels) Counts tokens))
+text_size names sizes tokens are =
+    run_size (level_value names sizes.levels) (size_named names sizes) are (level_limit names sizes.levels) Counts tokens
+    ∙ sym (limited_alike (runs.run (level_value names sizes.levels) Counts tokens))
 
 -- a name with a length has a value
-pub long_there : (x : Answer) (n : ℕ) → Long n ≡ shape_of x → is_ok x ≡ true
+pub long_there : (x : Answer) (n : ℕ) → Long n ≡ size_of x → is_ok x ≡ true
 long_there (Ok bytes) n e = refl
 long_there (Err flaw) n e = cc
 
-pub flawed_there : (x : Answer) (flaw : Flaw) → within_limit x ≡ x → Flawed flaw ≡ shape_of x → Flawed flaw ≡ shape_of (domain_of x)
+pub flawed_there : (x : Answer) (flaw : Flaw) → within_limit x ≡ x → Flawed flaw ≡ size_of x → Flawed flaw ≡ size_of (domain_of x)
 flawed_there (Ok bytes) flaw h e =
-    (elim (nat_lt length_limit (length bytes)) as (λ t. unless_long t bytes ≡ Ok bytes → Flawed flaw ≡ (if t then Flawed TooLong else Long (length bytes)) → Flawed flaw ≡ shape_of (domain_of (Ok bytes))) [
+    (elim (nat_lt length_limit (length bytes)) as (λ t. unless_long t bytes ≡ Ok bytes → Flawed flaw ≡ (if t then Flawed TooLong else Long (length bytes)) → Flawed flaw ≡ size_of (domain_of (Ok bytes))) [
       | true ↦ λ k p. cc
       | false ↦ λ k p. cc
     ]) h e
@@ -59,9 +59,9 @@ flawed_there (Ok bytes) flaw h e =
     unless_long t b = if t then Err TooLong else Ok b
 flawed_there (Err g) flaw h e = e
 
-pub domain_shape_of : (x : Answer) → is_ok x ≡ true → long (length (domain_in (content x))) ≡ shape_of (domain_of x)
-domain_shape_of (Ok bytes) h = refl
-domain_shape_of (Err flaw) h = cc
+pub domain_size_of : (x : Answer) → is_ok x ≡ true → long (length (domain_in (content x))) ≡ size_of (domain_of x)
+domain_size_of (Ok bytes) h = refl
+domain_size_of (Err flaw) h = cc
 
 -- a name with one level more
 pub next_value : (names : List (List ℕ × Kept)) (n : ℕ) (name : List ℕ) → level_value names (n + 1) name ≡ meaning_value (level_value names n) (meaning_of names name)
@@ -97,27 +97,27 @@ not_set names name h =
     behind_all : nat_lt (position_or_len (bytes_eq name) (keys_of names)) (length (keys_of names)) ≡ false → length (keys_of names) ≤ position_or_len (bytes_eq name) (keys_of names)
     behind_all e = omega (arith, ltb-false _ _ e)
 
-pub not_set_value : (names : List (List ℕ × Kept)) (n : ℕ) (name : List ℕ) → meaning_in names name ≡ None → Long 0 ≡ shape_of (level_value names (n + 1) name)
-not_set_value names n name is = sym (ap shape_of (next_meaning names n name None is))
+pub not_set_value : (names : List (List ℕ × Kept)) (n : ℕ) (name : List ℕ) → meaning_in names name ≡ None → Long 0 ≡ size_of (level_value names (n + 1) name)
+not_set_value names n name is = sym (ap size_of (next_meaning names n name None is))
 
 -- the shapes with one level more
-pub next_shapes : (names : List (List ℕ × Kept)) (shapes : Shapes) (n : ℕ) → shapes.levels ≡ n + 1 → shapes.absent ≡ Long 0
-    → shapes.named ≡ map (λ name. shape_of (level_value names (n + 1) name)) (keys_of names) → AreShapes names shapes
-next_shapes names shapes n levels absent named name =
-    at_place (place_in names name) refl ∙ ap (λ m. shape_of (level_value names m name)) (sym levels)
+pub next_sizes : (names : List (List ℕ × Kept)) (sizes : Sizes) (n : ℕ) → sizes.levels ≡ n + 1 → sizes.absent ≡ Long 0
+    → sizes.named ≡ map (λ name. size_of (level_value names (n + 1) name)) (keys_of names) → AreSizes names sizes
+next_sizes names sizes n levels absent named name =
+    at_place (place_in names name) refl ∙ ap (λ m. size_of (level_value names m name)) (sym levels)
   where
-    at_place : (x : Option ℕ) → place_in names name ≡ x → shape_at shapes x ≡ shape_of (level_value names (n + 1) name)
+    at_place : (x : Option ℕ) → place_in names name ≡ x → size_at sizes x ≡ size_of (level_value names (n + 1) name)
     at_place None is = absent ∙ not_set_value names n name (not_set names name is)
     at_place (Some i) is =
         let found = position-Some (bytes_eq name) (keys_of names) i [] is in
-        ap (λ xs. get_or xs i shapes.absent) named
-        ∙ get_or-map (λ key. shape_of (level_value names (n + 1) key)) (keys_of names) i [] shapes.absent found.0
-        ∙ ap (λ key. shape_of (level_value names (n + 1) key)) (sym ((bytes_eq-Decides name (get_or (keys_of names) i [])).0 found.1))
+        ap (λ xs. get_or xs i sizes.absent) named
+        ∙ get_or-map (λ key. size_of (level_value names (n + 1) key)) (keys_of names) i [] sizes.absent found.0
+        ∙ ap (λ key. size_of (level_value names (n + 1) key)) (sym ((bytes_eq-Decides name (get_or (keys_of names) i [])).0 found.1))
 
 -- with no level left no name has a value
-pub no_levels : (names : List (List ℕ × Kept)) (name : List ℕ) → shape_named names (record { levels = 0; named = []; absent = Flawed TooDeep }) name ≡ shape_of (level_value names 0 name)
+pub no_levels : (names : List (List ℕ × Kept)) (name : List ℕ) → size_named names (record { levels = 0; named = []; absent = Flawed TooDeep }) name ≡ size_of (level_value names 0 name)
 unfolding level_value
 no_levels names name = at_place (place_in names name) where
-  at_place : (x : Option ℕ) → shape_at (record { levels = 0; named = []; absent = Flawed TooDeep }) x ≡ Flawed TooDeep
+  at_place : (x : Option ℕ) → size_at (record { levels = 0; named = []; absent = Flawed TooDeep }) x ≡ Flawed TooDeep
   at_place None = refl
   at_place (Some i) = refl

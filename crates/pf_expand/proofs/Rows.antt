@@ -10,9 +10,9 @@ use Rattle.pf_expand.specs.Names.{domain_in, expanded, name_value, with_source}
 use Rattle.pf_expand.specs.declared.flaw.Flaw.TheVariants.{BadForm, TooDeep, TooLong}
 
 -- parts
-plain_front : first_part (codes "ab$c") ≡ Some (part.literal (codes "ab"), codes "$c")
+plain_prefix : first_part (codes "ab$c") ≡ Some (part.literal (codes "ab"), codes "$c")
 unfolding first_part
-plain_front = refl
+plain_prefix = refl
 
 a_name : first_part (codes "$a_1-b") ≡ Some (part.name (codes "a_1"), codes "-b")
 unfolding first_part form_of

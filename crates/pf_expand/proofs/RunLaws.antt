@@ -34,7 +34,7 @@ joined_assoc (Err f) (Ok b) (Err g) = refl
 joined_assoc (Err f) (Err g) (Ok c) = refl
 joined_assoc (Err f) (Err g) (Err h) = ap Err (first_flaw_assoc f g h)
 
--- a choice as a list, with what stands behind it
+-- a choice as a list, with what is after it
 flat_more : (name : List ℕ) (f e r : Text) (ts : List Token)
     → flat (text.choice name f e r) ++ ts ≡ Choose name ∷ (flat f ++ (Otherwise ∷ (flat e ++ (End ∷ (flat r ++ ts)))))
 flat_more name f e r ts =
@@ -84,7 +84,7 @@ skip_second values n (text.choice name f e r) ts =
     back : (n : ℕ) → (if (n + 1) == 0 then Counts else ToEnd (n + 1 - 1)) ≡ ToEnd n
     back n = ap (λ b. if b then Counts else ToEnd (n + 1 - 1)) (ne_eqb (n + 1) 0 (λ e. omega (arith, e))) ∙ ap ToEnd (same n)
 
--- the pieces of a text, and those behind it
+-- the pieces of a text, and those after it
 pub run_flat : (values : List ℕ → Answer) (t : Text) (ts : List Token) → run values Counts (flat t ++ ts) ≡ joined (value_of values t) (run values Counts ts)
 run_flat values text.end ts = sym (joined_nothing (run values Counts ts))
 run_flat values (text.literal bytes r) ts = ap (joined (Ok bytes)) (run_flat values r ts) ∙ sym (joined_assoc (Ok bytes) (value_of values r) (run values Counts ts))
@@ -99,7 +99,7 @@ run_flat values (text.choice name f e r) ts =
     behind_empty : List Token
     behind_empty = End ∷ (flat r ++ ts)
 
-    -- behind the first text, the second one is passed over
+    -- after the first text, the second one is passed over
     over_second : run values (ToEnd 0) (flat e ++ behind_empty) ≡ run values Counts (flat r ++ ts)
     over_second = skip_second values 0 e behind_empty ∙ joined_nothing _
 

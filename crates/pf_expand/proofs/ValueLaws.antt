@@ -3,18 +3,18 @@ use Rattle.std.proofs.Common.{◌≡◌, ℕ, Bool, true, false, nat_lt, List, [
 use Rattle.std.specs.Option.{option_map}
 use Rattle.pf_expand.proofs.LevelLaws.{level_limit}
 use Rattle.pf_expand.proofs.RunLaws.{run_flat}
-use Rattle.pf_expand.proofs.ShapeLaws.{run_shape}
+use Rattle.pf_expand.proofs.SizeLaws.{run_size}
 use Rattle.pf_expand.specs.Expansion.{Answer, Text, content, joined, length_limit, parts_of, text_value, value_of, value_or_bad, within_limit}
-use Rattle.pf_expand.specs.Clauses.Levels.{AreShapes, shape_named}
+use Rattle.pf_expand.specs.Clauses.Levels.{AreSizes, size_named}
 use Rattle.pf_expand.specs.Clauses.Meanings.{Kept, level_value}
 use Rattle.pf_expand.specs.Clauses.Runs as runs
-use Rattle.pf_expand.specs.Clauses.Shapes.{run, shape_of}
+use Rattle.pf_expand.specs.Clauses.Sizes.{run, size_of}
 use Rattle.pf_expand.specs.Clauses.Tokens.{flat, tokens_of}
 use Rattle.pf_expand.specs.declared.flaw.Flaw.{Flaw}
 use Rattle.pf_expand.specs.declared.flaw.Flaw.TheVariants.{BadForm, TooLong}
-use Rattle.pf_expand.specs.declared.lengths.Shapes.{Shapes}
+use Rattle.pf_expand.specs.declared.lengths.Sizes.{Sizes}
 use Rattle.pf_expand.specs.declared.run.Mode.TheVariants.{Counts}
-use Rattle.pf_expand.specs.declared.shape.Shape.TheVariants.{Long, Flawed}
+use Rattle.pf_expand.specs.declared.size.Size.TheVariants.{Long, Flawed}
 use Rattle.pf_expand.specs.declared.token.Token.{Token}
 
 joined_none : (x : Answer) → joined x (Ok []) ≡ x
@@ -44,7 +44,7 @@ value_of_bad values text is = by_parts (parts_of text) is where
   by_parts (Some t) e = cc
 
 -- a flaw, and a length
-pub flawed_limit : (x : Answer) (flaw : Flaw) → Flawed flaw ≡ shape_of x → within_limit x ≡ Err flaw
+pub flawed_limit : (x : Answer) (flaw : Flaw) → Flawed flaw ≡ size_of x → within_limit x ≡ Err flaw
 flawed_limit (Ok bytes) flaw e =
     (elim (nat_lt length_limit (length bytes)) as (λ t. Flawed flaw ≡ (if t then Flawed TooLong else Long (length bytes)) → unless_long t bytes ≡ Err flaw) [
       | true ↦ λ p. ap Err (same_flaw flaw p)
@@ -60,7 +60,7 @@ flawed_limit (Err g) flaw e = ap Err (same_flaw flaw g e) where
   same_flaw : (f g : Flaw) → Flawed f ≡ Flawed g → g ≡ f
   same_flaw f g p = cc
 
-pub long_limit : (x : Answer) (n : ℕ) → Long n ≡ shape_of x → within_limit x ≡ Ok (content x)
+pub long_limit : (x : Answer) (n : ℕ) → Long n ≡ size_of x → within_limit x ≡ Ok (content x)
 long_limit (Ok bytes) n e =
     (elim (nat_lt length_limit (length bytes)) as (λ t. Long n ≡ (if t then Flawed TooLong else Long (length bytes)) → unless_long t bytes ≡ unless_long false bytes) [
       | true ↦ λ p. cc
@@ -72,7 +72,7 @@ long_limit (Ok bytes) n e =
 long_limit (Err g) n e = cc
 
 -- the shape of pieces is that of their value
-pub pieces_run : (names : List (List ℕ × Kept)) (shapes : Shapes) (tokens : List Token) → AreShapes names shapes
-    → run (shape_named names shapes) Counts tokens ≡ shape_of (runs.run (level_value names shapes.levels) Counts tokens)
-pieces_run names shapes tokens are =
-    run_shape (level_value names shapes.levels) (shape_named names shapes) are (level_limit names shapes.levels) Counts tokens
+pub pieces_run : (names : List (List ℕ × Kept)) (sizes : Sizes) (tokens : List Token) → AreSizes names sizes
+    → run (size_named names sizes) Counts tokens ≡ size_of (runs.run (level_value names sizes.levels) Counts tokens)
+pieces_run names sizes tokens are =
+    run_size (level_value names sizes.levels) (size_named names sizes) are (level_limit names sizes.levels) Counts tokens

@@ -5,5 +5,5 @@ pub mod Meanings
 pub mod Parting
 pub mod Runs
 pub mod RunsMeant
-pub mod Shapes
+pub mod Sizes
 pub mod Tokens

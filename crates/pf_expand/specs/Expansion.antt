@@ -14,14 +14,14 @@ pub data Text : Type 0 where
   value : List ℕ → Text → Text
   choice : List ℕ → Text → Text → Text → Text
 
--- a choice of two texts, and the text behind it
+-- a choice of two texts, and the text after it
 abbrev pub choice_of : List ℕ → Option Text → Option Text → Option Text → Option Text
 choice_of name full empty rest = do
   f ← full
   e ← empty
   option_map (choice name f e) rest
 
--- a part and what stands behind it, where texts are parted so
+-- a part and what is after it, where texts are parted so
 abbrev pub parts_with : (List ℕ → Option Text) → Part × List ℕ → Option Text
 parts_with parts (part.literal bytes, rest) = option_map (literal bytes) (parts rest)
 parts_with parts (part.name name, rest) = option_map (value name) (parts rest)

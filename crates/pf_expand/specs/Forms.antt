@@ -18,17 +18,17 @@ pub data Part : Type 0 where
   name : List ℕ → Part
   choice : List ℕ → List ℕ → List ℕ → Part
 
--- a part, and the text behind it
+-- a part, and the text after it
 abbrev pub before : List ℕ → Part → Part × List ℕ
 before rest part = (part, rest)
 
--- the name that a text begins with, if it has a byte, and what stands behind it
+-- the name that a text begins with, if it has a byte, and what is after it
 abbrev pub name_before : List ℕ → Option (List ℕ × List ℕ)
 name_before text =
     if prefix_len is_name_byte text == 0 then None
     else Some (take (prefix_len is_name_byte text) text, drop (prefix_len is_name_byte text) text)
 
--- what stands in a brace that was opened in front of a text, and what stands behind it
+-- what is in a brace that was opened before a text, and what is after it
 abbrev pub in_brace : List ℕ → Option (List ℕ × List ℕ)
 in_brace text = option_map (λ n. (take n text, drop (n + 1) text)) (partner 0 text)
 
@@ -45,16 +45,16 @@ abbrev pub begins_with_brace : List ℕ → Bool
 begins_with_brace [] = false
 begins_with_brace (b ∷ text) = b == ascii.left_brace
 
--- one text: a brace's content, or else all of it as it stands
+-- one text: a brace's content, or else all of it as it is
 abbrev pub one_text : List ℕ → Option (List ℕ)
 one_text text = if begins_with_brace (without_leading_space text) then brace_content (without_leading_space text) else Some text
 
--- behind the first text of two: nothing, or a colon and the second one in a brace
+-- after the first text of two: nothing, or a colon and the second one in a brace
 abbrev pub second_text : List ℕ → Option (List ℕ)
 second_text [] = Some []
 second_text (b ∷ text) = if b == ascii.colon then brace_content (without_leading_space text) else None
 
--- the texts behind a question mark
+-- the texts after a question mark
 abbrev pub two_braces : List ℕ → List ℕ × List ℕ → Option Part
 two_braces n cut = option_map (choice n cut.0) (second_text (without_leading_space cut.1))
 
@@ -66,11 +66,11 @@ abbrev pub if_full : List ℕ → List ℕ → Option Part
 if_full n text =
     if begins_with_brace (without_leading_space text) then behind_brace n (without_leading_space text) else Some (choice n text [])
 
--- the text behind a colon
+-- the text after a colon
 abbrev pub if_empty : List ℕ → List ℕ → Option Part
 if_empty n text = option_map (choice n []) (one_text text)
 
--- what stands behind a name in a brace
+-- what is after a name in a brace
 abbrev pub behind_name : List ℕ → List ℕ → Option Part
 behind_name n [] = Some (name n)
 behind_name n (b ∷ text) =
@@ -87,15 +87,15 @@ braced text = option_and_then with_name (name_before (without_leading_space text
 abbrev pub parenthesised : List ℕ → Option Part
 parenthesised text = if nat_lt 0 (length (trimmed text)) && list_all is_name_byte (trimmed text) then Some (name (trimmed text)) else None
 
--- a form's content with what stands behind it
+-- a form's content with what is after it
 abbrev pub form_before : (List ℕ → Option Part) → List ℕ × List ℕ → Option (Part × List ℕ)
 form_before content cut = option_map (before cut.1) (content cut.0)
 
--- where a parenthesis ends that was opened in front of a text
+-- where a parenthesis ends that was opened before a text
 abbrev pub in_parenthesis : List ℕ → Option (List ℕ × List ℕ)
 in_parenthesis text = option_map (λ n. (take n text, drop (n + 1) text)) (position (λ b. b == ascii.right_parenthesis) text)
 
--- ${..}, $(..) and $name, without the dollar sign and the opening brace or parenthesis, and the text behind
+-- ${..}, $(..) and $name, without the dollar sign and the opening brace or parenthesis, and the text after
 abbrev pub with_brace : List ℕ → Option (Part × List ℕ)
 with_brace text = option_and_then (form_before braced) (in_brace text)
 
@@ -105,7 +105,7 @@ with_parenthesis text = option_and_then (form_before parenthesised) (in_parenthe
 abbrev pub with_name_alone : List ℕ → Option (Part × List ℕ)
 with_name_alone text = option_map (λ cut. (name cut.0, cut.1)) (name_before text)
 
--- the part that a dollar sign in front of a text begins, and the text behind it; None where it begins no form
+-- the part that a dollar sign before a text begins, and the text after it; None where it begins no form
 unfoldable pub form_of : List ℕ → Option (Part × List ℕ)
 form_of [] = None
 form_of (b ∷ text) =
@@ -114,11 +114,11 @@ form_of (b ∷ text) =
     else if b == ascii.left_parenthesis then with_parenthesis text
     else with_name_alone (b ∷ text)
 
--- how many bytes stand before the first dollar sign
+-- how many bytes are before the first dollar sign
 abbrev pub plain_length : List ℕ → ℕ
 plain_length text = position_or_len (λ b. b == ascii.dollar_sign) text
 
--- the first part of a text, and the text behind it; None where a dollar sign begins no form
+-- the first part of a text, and the text after it; None where a dollar sign begins no form
 unfoldable pub first_part : List ℕ → Option (Part × List ℕ)
 first_part [] = None
 first_part (b ∷ text) =

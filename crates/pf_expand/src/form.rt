@@ -39,7 +39,7 @@ fn name_length(text: &[u8]) -> usize
     text.len()
 }
 
-// The name that a text begins with, and what stands behind it.
+// The name that a text begins with, and what is after it.
 fn name_before(text: &[u8]) -> Option<(&[u8], &[u8])>
     ensures { option_map (λ cut. (cut.0.now, cut.1.now)) result ≡ spec.name_before text.now }
 {
@@ -51,7 +51,7 @@ fn name_before(text: &[u8]) -> Option<(&[u8], &[u8])>
     }
 }
 
-// What stands in a brace that was opened in front of a text, and what stands behind it.
+// What is in a brace that was opened before a text, and what is after it.
 fn in_brace(text: &[u8]) -> Option<(&[u8], &[u8])>
     ensures { option_map (λ cut. (cut.0.now, cut.1.now)) result ≡ spec.in_brace text.now }
 {
@@ -61,14 +61,14 @@ fn in_brace(text: &[u8]) -> Option<(&[u8], &[u8])>
     }
 }
 
-// Where the first closing parenthesis stands.
+// Where the first closing parenthesis is.
 fn closing_parenthesis(text: &[u8]) -> Option<usize>
     ensures { result ≡ position (λ b. b == 41) text.now }
 {
     text.iter().position(|b| *b == b')')
 }
 
-// What stands in a parenthesis that was opened in front of a text, and what stands behind it.
+// What is in a parenthesis that was opened before a text, and what is after it.
 fn in_parenthesis(text: &[u8]) -> Option<(&[u8], &[u8])>
     ensures { option_map (λ cut. (cut.0.now, cut.1.now)) result ≡ spec.in_parenthesis text.now }
 {
@@ -102,7 +102,7 @@ fn begins_with_brace(text: &[u8]) -> bool
     }
 }
 
-// One text: a brace's content, or else all of it as it stands.
+// One text: a brace's content, or else all of it as it is.
 fn one_text(text: &[u8]) -> Option<&[u8]>
     ensures { option_copied result ≡ spec.one_text text.now }
 {
@@ -114,7 +114,7 @@ fn one_text(text: &[u8]) -> Option<&[u8]>
     }
 }
 
-// What stands behind the first text of two: nothing, or a colon and the second one in a brace.
+// What is after the first text of two: nothing, or a colon and the second one in a brace.
 fn second_text(text: &[u8]) -> Option<&[u8]>
     ensures { option_copied result ≡ spec.second_text text.now }
 {
@@ -137,7 +137,7 @@ fn two_texts<'a>(name: &'a [u8], text: &'a [u8]) -> Option<Part<'a>>
     Some(Part::Choice { name, full, empty })
 }
 
-// What stands behind a question mark.
+// What is after a question mark.
 fn if_full<'a>(name: &'a [u8], text: &'a [u8]) -> Option<Part<'a>>
     ensures { option_map part_meant result ≡ spec.if_full name.now text.now }
 {
@@ -153,7 +153,7 @@ fn if_full<'a>(name: &'a [u8], text: &'a [u8]) -> Option<Part<'a>>
     }
 }
 
-// What stands behind a colon.
+// What is after a colon.
 fn if_empty<'a>(name: &'a [u8], text: &'a [u8]) -> Option<Part<'a>>
     ensures { option_map part_meant result ≡ spec.if_empty name.now text.now }
 {
@@ -165,7 +165,7 @@ fn if_empty<'a>(name: &'a [u8], text: &'a [u8]) -> Option<Part<'a>>
     })
 }
 
-// What stands behind a name in a brace.
+// What is after a name in a brace.
 fn behind_name<'a>(name: &'a [u8], text: &'a [u8]) -> Option<Part<'a>>
     ensures { option_map part_meant result ≡ spec.behind_name name.now text.now }
 {
@@ -177,7 +177,7 @@ fn behind_name<'a>(name: &'a [u8], text: &'a [u8]) -> Option<Part<'a>>
     }
 }
 
-// The content of a brace behind a dollar sign.
+// The content of a brace after a dollar sign.
 fn braced(text: &[u8]) -> Option<Part<'_>>
     ensures { option_map part_meant result ≡ spec.braced text.now }
 {
@@ -191,7 +191,7 @@ fn has_name_bytes(text: &[u8]) -> bool
     text.iter().all(|b| is_name_byte(*b))
 }
 
-// The content of a parenthesis behind a dollar sign.
+// The content of a parenthesis after a dollar sign.
 fn parenthesised(text: &[u8]) -> Option<Part<'_>>
     ensures { option_map part_meant result ≡ spec.parenthesised text.now }
 {
@@ -226,7 +226,7 @@ fn with_name_alone(text: &[u8]) -> Option<(Part<'_>, &[u8])>
     Some((Part::Name(name), behind))
 }
 
-// The part that a dollar sign in front of a text begins, and the text behind it; None where it begins no form.
+// The part that a dollar sign before a text begins, and the text after it; None where it begins no form.
 #[tactic(auto, unfolding(crate::specs::Forms::form_of))]
 fn form_of(text: &[u8]) -> Option<(Part<'_>, &[u8])>
     ensures { option_map (λ cut. (part_meant cut.0, cut.1.now)) result ≡ spec.form_of text.now }
@@ -240,7 +240,7 @@ fn form_of(text: &[u8]) -> Option<(Part<'_>, &[u8])>
     }
 }
 
-// How many bytes stand before the first dollar sign.
+// How many bytes are before the first dollar sign.
 fn plain_length(text: &[u8]) -> usize
     ensures within { result ≤ length text.now }
     ensures count { result ≡ spec.plain_length text.now }
@@ -253,7 +253,7 @@ fn plain_length(text: &[u8]) -> usize
     text.len()
 }
 
-/// The first part of a text that is not empty, and the text behind it; None where a dollar sign begins no form.
+/// The first part of a text that is not empty, and the text after it; None where a dollar sign begins no form.
 #[tactic(auto, unfolding(crate::specs::Forms::first_part))]
 pub(crate) fn first_part(text: &[u8]) -> Option<(Part<'_>, &[u8])>
     ensures { option_map (λ cut. (part_meant cut.0, cut.1.now)) result ≡ spec.first_part text.now }

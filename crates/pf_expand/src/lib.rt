@@ -8,7 +8,7 @@ mod names;
 mod parse;
 mod rounds;
 mod run;
-mod shape;
+mod size;
 mod token;
 mod values;
 mod write;

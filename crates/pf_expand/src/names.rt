@@ -67,7 +67,7 @@ impl Names {
     }
 
     /// Lets a name stand for this, and for nothing that it stood for before: a text, or the domain in the value of another name,
-    /// which is what stands past the first dot of it, `localdomain` where it has none (postconf(5), mydomain). Where there is no
+    /// which is what is past the first dot of it, `localdomain` where it has none (postconf(5), mydomain). Where there is no
     /// memory nothing changes.
     pub fn set(
         &mut self,

@@ -8,7 +8,7 @@ use crate::token::Token;
 use pf_base::{Bytes, List, NoMemory};
 use std::alloc::Global;
 
-// What is still to be parted: a text, or what stands behind a text of a choice.
+// What is still to be parted: a text, or what is after a text of a choice.
 #[derive(Clone, Copy)]
 enum Left<'a> {
     Text(&'a [u8]),
@@ -16,7 +16,7 @@ enum Left<'a> {
     End,
 }
 
-// Leaves the texts of a choice in front of the text behind it.
+// Leaves the texts of a choice before the text after it.
 fn leave_choice<'a>(
     left: &mut List<Left<'a>>,
     full: &'a [u8],

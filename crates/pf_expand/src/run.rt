@@ -2,12 +2,12 @@
 ghost use Rattle.std.specs.Prelude.{◌≡◌, ◌<◌, ◌-◌, ◌^◌};
 ghost use Rattle.pf_expand.specs.Clauses.RunsMeant.{depth_of};
 ghost use Rattle.pf_expand.specs.Clauses.Runs as runs;
-ghost use Rattle.pf_expand.specs.Clauses.Shapes as shapes;
+ghost use Rattle.pf_expand.specs.Clauses.Sizes as sizes;
 
-use crate::shape::Shape;
+use crate::size::Size;
 use crate::token::Token;
 
-/// Which pieces count: these, or those behind the middle or behind the end of a choice, where so many choices are open in
+/// Which pieces count: these, or those after the middle or after the end of a choice, where so many choices are open in
 /// the text that is passed over.
 #[derive(Clone, Copy, Debug, PartialEq, Eq)]
 pub(crate) enum Mode {
@@ -16,18 +16,18 @@ pub(crate) enum Mode {
     ToEnd(u64),
 }
 
-/// Which pieces count behind the name of a choice, whose value has this shape.
-pub(crate) fn behind_choice(named: Shape) -> Mode
-    ensures { result ≡ shapes.behind_choice named }
+/// Which pieces count after the name of a choice, whose value has this shape.
+pub(crate) fn behind_choice(named: Size) -> Mode
+    ensures { result ≡ sizes.behind_choice named }
 {
     match named {
-        Shape::Long(0) => Mode::ToOtherwise(0),
-        Shape::Long(_) => Mode::Counts,
-        Shape::Flawed(_) => Mode::ToEnd(0),
+        Size::Long(0) => Mode::ToOtherwise(0),
+        Size::Long(_) => Mode::Counts,
+        Size::Flawed(_) => Mode::ToEnd(0),
     }
 }
 
-// Behind a piece of a first text that is passed over.
+// After a piece of a first text that is passed over.
 fn behind_first(depth: u64, token: &Token) -> Mode
     requires { depth < 2 ^ 64 - 1 }
     ensures { result ≡ runs.behind_first depth token.now }
@@ -47,7 +47,7 @@ fn behind_first(depth: u64, token: &Token) -> Mode
     }
 }
 
-// Behind a piece that is passed over up to the end of the choice.
+// After a piece that is passed over up to the end of the choice.
 fn behind_second(depth: u64, token: &Token) -> Mode
     requires { depth < 2 ^ 64 - 1 }
     ensures { result ≡ runs.behind_second depth token.now }
@@ -67,7 +67,7 @@ fn behind_second(depth: u64, token: &Token) -> Mode
     }
 }
 
-// Behind a piece that counts.
+// After a piece that counts.
 fn behind_counted(choice: Mode, token: &Token) -> Mode
     ensures { result ≡ runs.behind choice Mode.Counts token.now }
 {
@@ -80,7 +80,7 @@ fn behind_counted(choice: Mode, token: &Token) -> Mode
     }
 }
 
-/// Which pieces count behind this one; behind the name of a choice that counts, `choice` says it.
+/// Which pieces count after this one; after the name of a choice that counts, `choice` says it.
 pub(crate) fn behind(choice: Mode, mode: Mode, token: &Token) -> Mode
     requires { depth_of mode < 2 ^ 64 - 1 }
     ensures { result ≡ runs.behind choice mode token.now }

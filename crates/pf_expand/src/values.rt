@@ -1,17 +1,17 @@
 //! The values of texts and of names.
 ghost use Rattle.std.specs.Prelude.{◌≡◌, ◌+◌, ℕ, List as Seq, IfOk};
 ghost use Rattle.pf_expand.specs.Expansion.{text_value};
-ghost use Rattle.pf_expand.specs.Clauses.Levels.{AreShapes};
+ghost use Rattle.pf_expand.specs.Clauses.Levels.{AreSizes};
 ghost use Rattle.pf_expand.specs.Clauses.Meanings.{AreNames, level_value};
 ghost use Rattle.pf_base.specs.Meanings.{Source};
 ghost use Rattle.pf_expand.specs.Names.{depth_limit, expanded, name_value};
 
 use crate::flaw::Flaw;
-use crate::lengths::{Shapes, pieces_shape};
+use crate::lengths::{Sizes, pieces_size};
 use crate::names::Names;
 use crate::parse::tokens_of;
-use crate::rounds::{next_shape, shapes_of};
-use crate::shape::Shape;
+use crate::rounds::{next_size, sizes_of};
+use crate::size::Size;
 use crate::write::{write_meaning, write_pieces};
 use pf_base::{Bytes, NoMemory};
 use std::alloc::Global;
@@ -21,12 +21,12 @@ use std::marker::Model;
 #[derive(Drop)]
 pub struct Values {
     names: Names,
-    shapes: Shapes,
+    sizes: Sizes,
 }
 
 impl Model for Values {
     ghost use Rattle.std.specs.Prelude.{◌≡◌, ℕ, List as Seq};
-    ghost use Rattle.pf_expand.specs.Clauses.Levels.{AreShapes};
+    ghost use Rattle.pf_expand.specs.Clauses.Levels.{AreSizes};
     ghost use Rattle.pf_expand.specs.Names.{depth_limit};
     ghost use Rattle.pf_expand.specs.Clauses.Meanings.{Kept};
 
@@ -34,32 +34,32 @@ impl Model for Values {
 
     ghost view = { λ s. s.names };
 
-    ghost invariant = { λ s. AreShapes s.names s.shapes × (s.shapes.levels ≡ depth_limit) };
+    ghost invariant = { λ s. AreSizes s.names s.sizes × (s.sizes.levels ≡ depth_limit) };
 }
 
 // The value of a text, where names mean these and have these shapes; or why there is none.
 fn value_of(
     alloc: Global,
     names: &Names,
-    shapes: &Shapes,
+    sizes: &Sizes,
     text: &[u8],
 ) -> Result<Result<Bytes, Flaw>, NoMemory>
-    requires { AreShapes names.now shapes.now }
-    ensures { IfOk result (λ value. value ≡ text_value (level_value names.now shapes.now.levels) text.now) }
+    requires { AreSizes names.now sizes.now }
+    ensures { IfOk result (λ value. value ≡ text_value (level_value names.now sizes.now.levels) text.now) }
 {
     let Some(tokens) = tokens_of(alloc, text)? else {
         return Ok(Err(Flaw::BadForm));
     };
-    match pieces_shape(names, shapes, tokens.as_slice()) {
-        Shape::Flawed(flaw) => Ok(Err(flaw)),
-        Shape::Long(_) => {
+    match pieces_size(names, sizes, tokens.as_slice()) {
+        Size::Flawed(flaw) => Ok(Err(flaw)),
+        Size::Long(_) => {
             let mut value = Bytes::new(alloc);
             write_pieces(
                 alloc,
                 names,
-                shapes,
+                sizes,
                 tokens.as_slice(),
-                shapes.levels,
+                sizes.levels,
                 &mut value,
             )?;
             Ok(Ok(value))
@@ -71,18 +71,18 @@ fn value_of(
 fn named_value(
     alloc: Global,
     names: &Names,
-    shapes: &Shapes,
+    sizes: &Sizes,
     name: &Bytes,
 ) -> Result<Result<Bytes, Flaw>, NoMemory>
-    requires { AreShapes names.now shapes.now }
-    ensures { IfOk result (λ value. value ≡ level_value names.now (shapes.now.levels + 1) name.now) }
+    requires { AreSizes names.now sizes.now }
+    ensures { IfOk result (λ value. value ≡ level_value names.now (sizes.now.levels + 1) name.now) }
 {
-    let shape = next_shape(alloc, names, shapes, name)?;
-    match shape {
-        Shape::Flawed(flaw) => Ok(Err(flaw)),
-        Shape::Long(_) => {
+    let size = next_size(alloc, names, sizes, name)?;
+    match size {
+        Size::Flawed(flaw) => Ok(Err(flaw)),
+        Size::Long(_) => {
             let mut value = Bytes::new(alloc);
-            write_meaning(alloc, names, shapes, name, shapes.levels, &mut value)?;
+            write_meaning(alloc, names, sizes, name, sizes.levels, &mut value)?;
             Ok(Ok(value))
         }
     }
@@ -93,8 +93,8 @@ impl Values {
     pub fn new(alloc: Global, names: Names) -> Result<Values, NoMemory>
         ensures { IfOk result (λ values. values ≡ names) }
     {
-        let shapes = shapes_of(alloc, &names)?;
-        Ok(Values { names, shapes })
+        let sizes = sizes_of(alloc, &names)?;
+        Ok(Values { names, sizes })
     }
 
     /// The value of a text, or why there is none. Names in it may name others in their texts, at most 100 deep, and no value
@@ -102,14 +102,14 @@ impl Values {
     pub fn text(&self, alloc: Global, text: &[u8]) -> Result<Result<Bytes, Flaw>, NoMemory>
         ensures { (sources : Seq ℕ → Source) → AreNames self.now sources → IfOk result (λ value. value ≡ expanded sources text.now) }
     {
-        value_of(alloc, &self.names, &self.shapes, text)
+        value_of(alloc, &self.names, &self.sizes, text)
     }
 
-    /// The value of a name as it stands alone, one level above the names in a text; or why there is none.
+    /// The value of a name as it is alone, one level above the names in a text; or why there is none.
     pub fn name(&self, alloc: Global, name: &[u8]) -> Result<Result<Bytes, Flaw>, NoMemory>
         ensures { (sources : Seq ℕ → Source) → AreNames self.now sources → IfOk result (λ value. value ≡ name_value sources (depth_limit + 1) name.now) }
     {
         let name = Bytes::from_slice(alloc, name)?;
-        named_value(alloc, &self.names, &self.shapes, &name)
+        named_value(alloc, &self.names, &self.sizes, &name)
     }
 }

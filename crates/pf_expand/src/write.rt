@@ -1,17 +1,17 @@
 //! Values are written.
 ghost use Rattle.std.specs.Prelude.{◌≡◌, ◌==◌, ◌≤◌, ◌+◌, ◌++◌, true, is_ok, OnOk};
 ghost use Rattle.std.specs.List.{position};
-ghost use Rattle.pf_expand.specs.Clauses.Levels.{AreShapes};
+ghost use Rattle.pf_expand.specs.Clauses.Levels.{AreSizes};
 ghost use Rattle.pf_expand.specs.Clauses.Meanings.{level_value};
 ghost use Rattle.pf_expand.specs.Expansion.{content};
 ghost use Rattle.pf_expand.specs.Names as expansion;
 ghost use Rattle.pf_expand.specs.Clauses.Runs as runs;
 ghost use Rattle.pf_expand.specs.declared.run.Mode.TheVariants.{Counts};
 
-use crate::lengths::{Shapes, choice_behind, shape_named};
+use crate::lengths::{Sizes, choice_behind, size_named};
 use crate::names::Names;
 use crate::run::{Mode, behind};
-use crate::shape::Shape;
+use crate::size::Size;
 use crate::token::Token;
 use pf_base::{Bytes, Meaning, NoMemory};
 use std::alloc::Global;
@@ -42,12 +42,12 @@ fn counts(mode: Mode) -> bool
     }
 }
 
-fn is_nothing(shape: Shape) -> bool
-    ensures { result ≡ true → shape ≡ Shape.Long 0 }
+fn is_nothing(size: Size) -> bool
+    ensures { result ≡ true → size ≡ Size.Long 0 }
 {
-    match shape {
-        Shape::Long(length) => length == 0,
-        Shape::Flawed(_) => false,
+    match size {
+        Size::Long(length) => length == 0,
+        Size::Flawed(_) => false,
     }
 }
 
@@ -56,20 +56,20 @@ fn is_nothing(shape: Shape) -> bool
 pub(crate) fn write_pieces(
     alloc: Global,
     names: &Names,
-    shapes: &Shapes,
+    sizes: &Sizes,
     tokens: &[Token],
     levels: u64,
     out: &mut Bytes,
 ) -> Result<(), NoMemory>
-    requires shapes { AreShapes names.now shapes.now }
-    requires levels { levels ≤ shapes.now.levels }
+    requires sizes { AreSizes names.now sizes.now }
+    requires levels { levels ≤ sizes.now.levels }
     requires there { is_ok (runs.run (level_value names.now levels) Counts tokens.now) ≡ true }
     ensures { OnOk result (out.new ≡ out.old ++ content (runs.run (level_value names.now levels) Counts tokens.now)) }
 {
     let mut mode = Mode::Counts;
     for token in tokens {
-        write_piece(alloc, names, shapes, mode, token, levels, out)?;
-        mode = behind(choice_behind(names, shapes, token), mode, token);
+        write_piece(alloc, names, sizes, mode, token, levels, out)?;
+        mode = behind(choice_behind(names, sizes, token), mode, token);
     }
     Ok(())
 }
@@ -79,14 +79,14 @@ pub(crate) fn write_pieces(
 fn write_piece(
     alloc: Global,
     names: &Names,
-    shapes: &Shapes,
+    sizes: &Sizes,
     mode: Mode,
     token: &Token,
     levels: u64,
     out: &mut Bytes,
 ) -> Result<(), NoMemory>
-    requires shapes { AreShapes names.now shapes.now }
-    requires levels { levels ≤ shapes.now.levels }
+    requires sizes { AreSizes names.now sizes.now }
+    requires levels { levels ≤ sizes.now.levels }
     requires there { is_ok (runs.added (level_value names.now levels) mode token.now) ≡ true }
     ensures { OnOk result (out.new ≡ out.old ++ content (runs.added (level_value names.now levels) mode token.now)) }
 {
@@ -95,7 +95,7 @@ fn write_piece(
     }
     match token {
         Token::Literal(bytes) => out.extend(bytes.as_slice()),
-        Token::Name(name) => write_name(alloc, names, shapes, name, levels, out),
+        Token::Name(name) => write_name(alloc, names, sizes, name, levels, out),
         Token::Choose(_) => Ok(()),
         Token::Otherwise => Ok(()),
         Token::End => Ok(()),
@@ -107,23 +107,23 @@ fn write_piece(
 pub(crate) fn write_name(
     alloc: Global,
     names: &Names,
-    shapes: &Shapes,
+    sizes: &Sizes,
     name: &Bytes,
     levels: u64,
     out: &mut Bytes,
 ) -> Result<(), NoMemory>
-    requires shapes { AreShapes names.now shapes.now }
-    requires levels { levels ≤ shapes.now.levels }
+    requires sizes { AreSizes names.now sizes.now }
+    requires levels { levels ≤ sizes.now.levels }
     requires there { is_ok (level_value names.now levels name.now) ≡ true }
     ensures { OnOk result (out.new ≡ out.old ++ content (level_value names.now levels name.now)) }
 {
     if levels == 0 {
         return Ok(());
     }
-    if is_nothing(shape_named(names, shapes, name)) {
+    if is_nothing(size_named(names, sizes, name)) {
         return Ok(());
     }
-    write_meaning(alloc, names, shapes, name, levels - 1, out)
+    write_meaning(alloc, names, sizes, name, levels - 1, out)
 }
 
 /// Adds the value of a name, which is there with one level more.
@@ -131,13 +131,13 @@ pub(crate) fn write_name(
 pub(crate) fn write_meaning(
     alloc: Global,
     names: &Names,
-    shapes: &Shapes,
+    sizes: &Sizes,
     name: &Bytes,
     levels: u64,
     out: &mut Bytes,
 ) -> Result<(), NoMemory>
-    requires shapes { AreShapes names.now shapes.now }
-    requires levels { levels ≤ shapes.now.levels }
+    requires sizes { AreSizes names.now sizes.now }
+    requires levels { levels ≤ sizes.now.levels }
     requires there { is_ok (level_value names.now (levels + 1) name.now) ≡ true }
     ensures { OnOk result (out.new ≡ out.old ++ content (level_value names.now (levels + 1) name.now)) }
 {
@@ -145,9 +145,9 @@ pub(crate) fn write_meaning(
         None => Ok(()),
         Some(Meaning::Is(None)) => Ok(()),
         Some(Meaning::Is(Some(tokens))) => {
-            write_pieces(alloc, names, shapes, tokens.as_slice(), levels, out)
+            write_pieces(alloc, names, sizes, tokens.as_slice(), levels, out)
         }
-        Some(Meaning::DomainOf(host)) => write_domain(alloc, names, shapes, host, levels, out),
+        Some(Meaning::DomainOf(host)) => write_domain(alloc, names, sizes, host, levels, out),
     }
 }
 
@@ -156,17 +156,17 @@ pub(crate) fn write_meaning(
 fn write_domain(
     alloc: Global,
     names: &Names,
-    shapes: &Shapes,
+    sizes: &Sizes,
     host: &Bytes,
     levels: u64,
     out: &mut Bytes,
 ) -> Result<(), NoMemory>
-    requires shapes { AreShapes names.now shapes.now }
-    requires levels { levels ≤ shapes.now.levels }
+    requires sizes { AreSizes names.now sizes.now }
+    requires levels { levels ≤ sizes.now.levels }
     requires there { is_ok (level_value names.now levels host.now) ≡ true }
     ensures { OnOk result (out.new ≡ out.old ++ content (expansion.domain_of (level_value names.now levels host.now))) }
 {
     let mut value = Bytes::new(alloc);
-    write_name(alloc, names, shapes, host, levels, &mut value)?;
+    write_name(alloc, names, sizes, host, levels, &mut value)?;
     out.extend(domain_in(value.as_slice()))
 }

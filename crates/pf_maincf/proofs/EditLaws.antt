@@ -18,7 +18,7 @@ use Rattle.pf_maincf.proofs.Joined.{Texts, fold_line, joined, parts, texts_joine
 use Rattle.pf_maincf.proofs.LastSettings.{Rises, last_changed, lines_of, missing, put, settings_after, value_of_each}
 use Rattle.pf_maincf.proofs.SetLines.{IsSet, and_left, and_right, is_writable_is, set_text, text_says}
 
--- the logical lines of a text stand each behind the one before it
+-- the logical lines of a text are each after the one before it
 rises_lower : (n : ℕ) (ms : List ℕ) → Rises (n + 1) ms → Rises n ms
 rises_lower n [] h = tt
 rises_lower n (m ∷ ms) h = let k = h.0 in (omega arith, h.1)

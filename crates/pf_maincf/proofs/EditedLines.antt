@@ -31,7 +31,7 @@ text_after (Some set) text = set_text set
 abbrev pub logical_after : List Setting → Logical → List ℕ
 logical_after sets l = text_after (set_at sets l.line) l.text
 
--- the lines from one on, behind lines the last of which stands in the logical line of this set
+-- the lines from one on, after lines the last of which is in the logical line of this set
 abbrev pub after : List Setting → Option Setting → Grouped → Texts
 after sets set g = record { leading = leading_after set (map (λ p. p.text) g.leading); logical = map (logical_after sets) g.logical }
 
@@ -47,7 +47,7 @@ parts_nil = rw (lines-nil, rest-nil)
 -- the line of a set before others begins a logical line of its own
 set_before : (set : Setting) (X : List ℕ) → IsSet set
     → joined (parts (set_line set ++ X))
-    ≡ record { leading = []; logical = fold (λ front line. front ++ line) (set_text set) (joined (parts X)).leading ∷ (joined (parts X)).logical }
+    ≡ record { leading = []; logical = fold (λ prefix line. prefix ++ line) (set_text set) (joined (parts X)).leading ∷ (joined (parts X)).logical }
 set_before set X s =
     rw (parts_at (set_text set) X (text_feed set s), text_whole set s, text_is_not_ignored set s, text_begins set s)
 
@@ -75,7 +75,7 @@ one_more sets set number line X g written stays behind =
     (ap (λ (T : Texts). let U : Texts = record { leading = text ∷ T.leading; logical = T.logical } in U) (rw none at here))))
     (λ s is. rw (h, k, is) (rw is at here))) (λ k.
     let here = rw (h, k) at behind in
-    let onto = λ (front : List ℕ) (T : Texts). let U : Texts = record { leading = []; logical = fold (λ front line. front ++ line) front T.leading ∷ T.logical } in U in
+    let onto = λ (prefix : List ℕ) (T : Texts). let U : Texts = record { leading = []; logical = fold (λ prefix line. prefix ++ line) prefix T.leading ∷ T.logical } in U in
     either_option (set_at sets number)
     (λ none. rw (h, k, fold_line (alone p) g.leading, fold_text (alone p) g.leading, none_leading set, none)
     (stays ∙ rw (h, k) (ap (onto text) (rw none at here))))
@@ -96,7 +96,7 @@ edited_from : (sets : List Setting) → AreWritten sets → (set : Option Settin
     → joined (parts (blocks_left sets set (blocks_from number (lines_with ls last)))) ≡ after sets set (grouped (numbered number (ls ++ last ∷ [])))
 edited_from sets written set number [] last clean feed =
     let line : Line = record { text = last; feed = [] } in
-    rw (left_more sets set number line (record { front = []; blocks = [] }))
+    rw (left_more sets set number line (record { prefix = []; blocks = [] }))
     (one_more sets set number line [] (record { leading = []; logical = [] }) written (stays_alone last feed)
     (ap joined parts_nil ∙ sym (ap (λ (l : List (List ℕ)). let T : Texts = record { leading = l; logical = [] } in T) (none_leading (set_from sets set number last)))))
 edited_from sets written set number (first ∷ ls) last clean feed =

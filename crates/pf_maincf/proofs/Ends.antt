@@ -47,7 +47,7 @@ length_more y ys = ne_eqb (length (y ∷ ys)) 0 (λ e. omega arith)
 pub rest_none : (xs : List ℕ) → has_feed xs ≡ false → rest xs ≡ xs
 rest_none xs h = rest_of_none xs (lines_none xs h)
 
--- a text ends in a line feed where nothing stands behind the last one
+-- a text ends in a line feed where nothing is after the last one
 last_by : (x : ℕ) (xs : List ℕ) → eqb (get_or (x ∷ xs) (length xs) 0) 10 ≡ eqb (length (if eqb x 10 then rest xs else unless_line (lines xs) (x ∷ xs) (rest xs))) 0
 last_by x [] = rw (lines-nil, rest-nil) (either_way (eqb x 10) (λ h. rw h) (λ h. rw h (sym (length_more x []))))
 last_by x (y ∷ ys) =
@@ -63,7 +63,7 @@ last_feed [] h = absurd (omega arith)
 last_feed (x ∷ xs) h =
     let e : length (x ∷ xs) - 1 ≡ length xs = omega arith in rw e (last_by x xs ∙ sym (ap (λ r. eqb (length r) 0) (rest-cons x xs)))
 
--- no line holds a line feed, and neither does what stands behind the last one
+-- no line holds a line feed, and neither does what is after the last one
 abbrev pub IsClean : List (List ℕ) → Type 0
 IsClean [] = Unit {0}
 IsClean (line ∷ lines) = (has_feed line ≡ false) × IsClean lines

@@ -42,7 +42,7 @@ line_comes_back line text (Some i) s h =
     let e : found 0 text i ≡ s = cc in
     (found line text i, refl, e)
 
--- what the settings of one line and of those behind it are
+-- what the settings of one line and of those after it are
 record IsNext (file : List ℕ) (l : Logical) (ls : List Logical) (settings : List Setting) : Type 0 where
   first : Setting
   behind : List Setting

@@ -16,7 +16,7 @@ pub there : {A : Type 0} (answer : Result A Refused) (x : A) → Ok x ≡ as_fau
 there (Ok y) x is = cc
 there (Err refusal) x is = cc
 
--- a fault stays one behind the first step
+-- a fault stays one after the first step
 pub conf_fault : (file : List ℕ) (fault : ConfFault) (settings : Result (List Setting) Refused) → Err fault ≡ as_fault settings → Err fault ≡ as_fault (conf_with file settings)
 conf_fault file fault (Ok settings) is = cc
 conf_fault file fault (Err refusal) is = cc

@@ -7,7 +7,7 @@ use Rattle.pf_base.specs.Text.Logical.{Physical, Grouped, alone, continued, grou
 use Rattle.pf_base.specs.declared.text.logical.Logical.{Logical}
 use Rattle.pf_maincf.proofs.Ends.{either_way}
 
--- the lines of a text, and what stands behind the last line feed
+-- the lines of a text, and what is after the last line feed
 abbrev pub parts : List ℕ → List (List ℕ)
 parts text = lines text ++ rest text ∷ []
 
@@ -19,7 +19,7 @@ pub record Texts : Type 0 where
 abbrev pub with_text : List ℕ → Texts → Texts
 with_text text t =
     if starts_with_space text then record { leading = text ∷ t.leading; logical = t.logical }
-    else record { leading = []; logical = fold (λ front line. front ++ line) text t.leading ∷ t.logical }
+    else record { leading = []; logical = fold (λ prefix line. prefix ++ line) text t.leading ∷ t.logical }
 
 abbrev pub unless_text_ignored : List ℕ → Texts → Texts
 unless_text_ignored text t = if is_ignored text then t else with_text text t
@@ -32,7 +32,7 @@ abbrev pub texts_of : Grouped → Texts
 texts_of g = record { leading = map (λ p. p.text) g.leading; logical = map (λ l. l.text) g.logical }
 
 pub fold_text : (l : Logical) (ps : List Physical)
-    → (fold continued l ps).text ≡ fold (λ (front line : List ℕ). front ++ line) l.text (map (λ p. p.text) ps)
+    → (fold continued l ps).text ≡ fold (λ (prefix line : List ℕ). prefix ++ line) l.text (map (λ p. p.text) ps)
 fold_text l [] = refl
 fold_text l (p ∷ ps) = fold_text (continued l p) ps
 
@@ -51,7 +51,7 @@ texts_joined n [] = refl
 texts_joined n (l ∷ ls) =
     texts_more (record { number = n; text = without_return l }) (grouped (numbered (n + 1) ls)) ∙ ap (unless_text_ignored (without_return l)) (texts_joined (n + 1) ls)
 
--- lines behind others: where they continue nothing, the logical lines are those of both
+-- lines after others: where they continue nothing, the logical lines are those of both
 abbrev pub then_texts : Texts → Texts → Texts
 then_texts t u = record { leading = t.leading; logical = t.logical ++ u.logical }
 

@@ -39,20 +39,20 @@ or_none : (a : Option Setting) → option_or a None ≡ a
 or_none None = refl
 or_none (Some s) = refl
 
-pub last_append : (front back : List Setting) (name : List ℕ)
-    → last_setting (front ++ back) name ≡ option_or (last_setting back name) (last_setting front name)
+pub last_append : (prefix back : List Setting) (name : List ℕ)
+    → last_setting (prefix ++ back) name ≡ option_or (last_setting back name) (last_setting prefix name)
 last_append [] back name = sym (or_none (last_setting back name))
-last_append (s ∷ front) back name =
-    last_more s (front ++ back) name
-    ∙ (ap (λ o. option_or o (one name s)) (last_append front back name)
-    ∙ (or_or (last_setting back name) (last_setting front name) (one name s) ∙ ap (option_or (last_setting back name)) (sym (last_more s front name))))
+last_append (s ∷ prefix) back name =
+    last_more s (prefix ++ back) name
+    ∙ (ap (λ o. option_or o (one name s)) (last_append prefix back name)
+    ∙ (or_or (last_setting back name) (last_setting prefix name) (one name s) ∙ ap (option_or (last_setting back name)) (sym (last_more s prefix name))))
 
 -- s is one of the settings
 abbrev pub IsOne : Setting → List Setting → Type 0
 IsOne s [] = ⊥
 IsOne s (t ∷ settings) = (t ≡ s) ⊎ IsOne s settings
 
--- the settings stand at lines from n on, each behind the one before it
+-- the settings are at lines from n on, each after the one before it
 abbrev pub Rises : ℕ → List ℕ → Type 0
 Rises n [] = Unit {0}
 Rises n (m ∷ ms) = (n ≤ m) × Rises (m + 1) ms

@@ -42,10 +42,10 @@ module _ {K : Type 0} (text : K → List ℕ) where
       by_test true same = subst (λ s. lookup (has_text s) new ≡ Some w) ((bytes_eq-Decides set asked).0 same) here
       by_test false differ = others asked differ
 
-front_stays : (xs ys : List Setting) (k : ℕ) (s : Setting) → slice_get xs k ≡ Some s → slice_get (xs ++ ys) k ≡ Some s
-front_stays [] ys k s is = cc
-front_stays (x ∷ xs) ys zero s is = is
-front_stays (x ∷ xs) ys (suc k) s is = front_stays xs ys k s is
+prefix_stays : (xs ys : List Setting) (k : ℕ) (s : Setting) → slice_get xs k ≡ Some s → slice_get (xs ++ ys) k ≡ Some s
+prefix_stays [] ys k s is = cc
+prefix_stays (x ∷ xs) ys zero s is = is
+prefix_stays (x ∷ xs) ys (suc k) s is = prefix_stays xs ys k s is
 
 end_there : (xs : List Setting) (s : Setting) → slice_get (xs ++ s ∷ []) (length xs) ≡ Some s
 end_there [] s = refl
@@ -58,7 +58,7 @@ IsAt settings place last = option_map (slice_get settings) place ≡ option_map 
 stays : (xs : List Setting) (s : Setting) (place : Option ℕ) (last : Option Setting) → IsAt xs place last → IsAt (xs ++ s ∷ []) place last
 stays xs s None last is = is
 stays xs s (Some k) None is = cc
-stays xs s (Some k) (Some t) is = let there : slice_get xs k ≡ Some t = cc in ap Some (front_stays xs (s ∷ []) k t there)
+stays xs s (Some k) (Some t) is = let there : slice_get xs k ≡ Some t = cc in ap Some (prefix_stays xs (s ∷ []) k t there)
 
 one_more : (xs : List Setting) (s : Setting) (place : Option ℕ) (name : List ℕ) → IsAt xs place (last_setting xs name)
     → IsAt (xs ++ s ∷ []) (if bytes_eq s.name name then Some (length xs) else place) (last_setting (xs ++ s ∷ []) name)
@@ -68,17 +68,17 @@ one_more xs s place name is = by_test (bytes_eq s.name name) ∙ ap (option_map 
   by_test true = ap Some (end_there xs s)
   by_test false = stays xs s place (last_setting xs name) is
 
-length_front : (xs : List Setting) (i : ℕ) → i < length xs → length (take i xs) ≡ i
-length_front [] i h = absurd (omega arith)
-length_front (x ∷ xs) zero h = refl
-length_front (x ∷ xs) (suc i) h = ap suc (length_front xs i (omega arith))
+length_prefix : (xs : List Setting) (i : ℕ) → i < length xs → length (take i xs) ≡ i
+length_prefix [] i h = absurd (omega arith)
+length_prefix (x ∷ xs) zero h = refl
+length_prefix (x ∷ xs) (suc i) h = ap suc (length_prefix xs i (omega arith))
 
 -- the places of one setting more
 pub put_more : (old new : List ℕ → Option ℕ) (settings : List Setting) (i : ℕ) (s : Setting) → i < length settings → s ≡ get_or settings i s
     → AreLast old (take i settings) → Puts old new s.name i → AreLast new (take (i + 1) settings)
 put_more old new settings i s within at last puts name =
     let all = take_more settings i s within ∙ ap (λ x. take i settings ++ x ∷ []) (sym at) in
-    let place = puts name ∙ ap (λ n. if bytes_eq s.name name then Some n else old name) (sym (length_front settings i within)) in
+    let place = puts name ∙ ap (λ n. if bytes_eq s.name name then Some n else old name) (sym (length_prefix settings i within)) in
     subst (λ xs. IsAt xs (new name) (last_setting xs name)) (sym all)
     (ap (option_map (slice_get (take i settings ++ s ∷ []))) place ∙ one_more (take i settings) s (old name) name (last name))
 

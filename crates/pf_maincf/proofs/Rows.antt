@@ -198,7 +198,7 @@ line_of_a_set = refl
 line_of_an_empty_value : set_line (set_to (codes "a") []) ≡ codes "a = \n"
 line_of_an_empty_value = refl
 
--- where a set stands
+-- where a set is
 at_the_last_of_its_name : placed (first ∷ second ∷ record { line = 3; name = codes "a"; value = codes "3" } ∷ []) (set_to (codes "a") (codes "4"))
     ≡ record { line = 3; name = codes "a"; value = codes "4" }
 at_the_last_of_its_name = refl
@@ -206,13 +206,13 @@ at_the_last_of_its_name = refl
 nowhere : placed (first ∷ second ∷ []) (set_to (codes "c") (codes "4")) ≡ record { line = 0; name = codes "c"; value = codes "4" }
 nowhere = refl
 
--- the logical lines of a text as they stand
+-- the logical lines of a text as they are
 abbrev ended_by_a_feed : List ℕ → Line
 ended_by_a_feed text = record { text = text; feed = codes "\n" }
 
 lines_in_blocks : blocks_from 1 (lines_in (codes "# top\na = 1\n\t2\r\n # mid\nb = 3\n"))
     ≡ record {
-      front = ended_by_a_feed (codes "# top") ∷ [];
+      prefix = ended_by_a_feed (codes "# top") ∷ [];
       blocks = record { line = 2; lines = ended_by_a_feed (codes "a = 1") ∷ ended_by_a_feed (codes "\t2\r") ∷ ended_by_a_feed (codes " # mid") ∷ [] }
           ∷ record { line = 5; lines = ended_by_a_feed (codes "b = 3") ∷ record { text = []; feed = [] } ∷ [] } ∷ [];
     }

@@ -107,10 +107,10 @@ last_behind xs y ys =
 no_return : (line : List ℕ) → eqb (get_or line (length line - 1) 0) 13 ≡ false → without_return line ≡ line
 no_return line h = rw h
 
-value_last : (front value : List ℕ) → eqb (get_or value (length value - 1) 0) 13 ≡ false
-    → eqb (get_or ((front ++ codes " = ") ++ value) (length ((front ++ codes " = ") ++ value) - 1) 0) 13 ≡ false
-value_last front [] h = rw (append-nil (front ++ codes " = "), last_behind front 32 (61 ∷ 32 ∷ []))
-value_last front (b ∷ bytes) h = ap (λ x. eqb x 13) (last_behind (front ++ codes " = ") b bytes) ∙ h
+value_last : (prefix value : List ℕ) → eqb (get_or value (length value - 1) 0) 13 ≡ false
+    → eqb (get_or ((prefix ++ codes " = ") ++ value) (length ((prefix ++ codes " = ") ++ value) - 1) 0) 13 ≡ false
+value_last prefix [] h = rw (append-nil (prefix ++ codes " = "), last_behind prefix 32 (61 ∷ 32 ∷ []))
+value_last prefix (b ∷ bytes) h = ap (λ x. eqb x 13) (last_behind (prefix ++ codes " = ") b bytes) ∙ h
 
 pub text_whole : (set : Setting) → IsSet set → without_return (set_text set) ≡ set_text set
 text_whole set s = no_return (set_text set) (value_last set.name set.value s.returns)
@@ -153,8 +153,8 @@ name_trimmed (b ∷ name) h =
     let n : length (b ∷ (name ++ 32 ∷ [])) ≡ length (b ∷ name) + 1 = length-append (b ∷ name) (32 ∷ []) in
     let suffix : suffix_len is_space (b ∷ (name ++ 32 ∷ [])) ≡ 1 =
     rw (reverse-append (b ∷ name) (32 ∷ []), no_prefix (reverse (b ∷ name)) (none_at_end (b ∷ name) h)) in
-    let front : length (b ∷ (name ++ 32 ∷ [])) - 1 ≡ length (b ∷ name) = omega (arith, n) in
-    rw (or_left (is_space b) (list_any is_space name) h, suffix, front) (take-append_seam (b ∷ name) (32 ∷ []))
+    let prefix : length (b ∷ (name ++ 32 ∷ [])) - 1 ≡ length (b ∷ name) = omega (arith, n) in
+    rw (or_left (is_space b) (list_any is_space name) h, suffix, prefix) (take-append_seam (b ∷ name) (32 ∷ []))
 
 drop_first : (n x : ℕ) (xs : List ℕ) → drop (1 + n) (x ∷ xs) ≡ drop n xs
 drop_first n x xs = let e : 1 + n ≡ suc n = omega arith in rw e

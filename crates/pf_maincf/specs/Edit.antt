@@ -46,7 +46,7 @@ pub record AreSets (sets : List Setting) : Type 0 where
   pub each : list_all is_writable sets ≡ true
   pub once : differ (map (λ set. set.name) sets) ≡ true
 
--- the line that sets a name, with its line feed; the blank behind the equals sign stands before an empty value too
+-- the line that sets a name, with its line feed; the blank after the equals sign is before an empty value too
 abbrev pub set_line : Setting → List ℕ
 set_line set = set.name ++ codes " = " ++ set.value ++ ascii.line_feed ∷ []
 
@@ -68,7 +68,7 @@ pub record Line : Type 0 where
 abbrev pub lines_in : List ℕ → List Line
 lines_in text = map (λ line. record { text = line; feed = ascii.line_feed ∷ [] }) (lines text) ++ record { text = rest text; feed = [] } ∷ []
 
--- a line as it stands in the text
+-- a line as it is in the text
 abbrev pub standing : Line → List ℕ
 standing line = line.text ++ line.feed
 
@@ -80,7 +80,7 @@ counts_for_nothing line = is_ignored (without_return line)
 abbrev pub begins_logical : List ℕ → Bool
 begins_logical line = not (is_ignored (without_return line)) && not (starts_with_space (without_return line))
 
--- a logical line as it stands in a text: the number of its first physical line, and its physical lines with the ignored ones up to the next
+-- a logical line as it is in a text: the number of its first physical line, and its physical lines with the ignored ones up to the next
 -- logical line
 pub record Block : Type 0 where
   pub line : ℕ
@@ -88,25 +88,25 @@ pub record Block : Type 0 where
 
 -- the physical lines before the first logical line, and the logical lines
 pub record Blocks : Type 0 where
-  pub front : List Line
+  pub prefix : List Line
   pub blocks : List Block
 
 -- one line more before others
 abbrev pub before_blocks : ℕ → Line → Blocks → Blocks
 before_blocks number line b =
-    if begins_logical line.text then record { front = []; blocks = record { line = number; lines = line ∷ b.front } ∷ b.blocks }
-    else record { front = line ∷ b.front; blocks = b.blocks }
+    if begins_logical line.text then record { prefix = []; blocks = record { line = number; lines = line ∷ b.prefix } ∷ b.blocks }
+    else record { prefix = line ∷ b.prefix; blocks = b.blocks }
 
 -- the blocks of lines whose first one has this number
 abbrev pub blocks_from : ℕ → List Line → Blocks
-blocks_from number [] = record { front = []; blocks = [] }
+blocks_from number [] = record { prefix = []; blocks = [] }
 blocks_from number (line ∷ lines) = before_blocks number line (blocks_from (number + 1) lines)
 
 -- the set of a line
 abbrev pub set_at : List Setting → ℕ → Option Setting
 set_at sets line = find (λ set. set.line == line) sets
 
--- a logical line stays as it stands, or gives way to the line of the set there; ignored lines come behind that
+-- a logical line stays as it is, or gives way to the line of the set there; ignored lines come after that
 abbrev pub edited_by : Block → Option Setting → List ℕ
 edited_by block None = flat_map standing block.lines
 edited_by block (Some set) = set_line set ++ flat_map standing (filter (λ line. counts_for_nothing line.text) block.lines)
@@ -116,12 +116,12 @@ edited_block sets block = edited_by block (set_at sets block.line)
 
 -- all lines, edited
 abbrev pub edited_blocks : List Setting → Blocks → List ℕ
-edited_blocks sets b = flat_map standing b.front ++ flat_map (edited_block sets) b.blocks
+edited_blocks sets b = flat_map standing b.prefix ++ flat_map (edited_block sets) b.blocks
 
 abbrev pub edited_lines : List Setting → List ℕ → List ℕ
 edited_lines sets text = edited_blocks sets (blocks_from 1 (lines_in text))
 
--- a text ends in a line feed: nothing stands behind its last one
+-- a text ends in a line feed: nothing is after its last one
 abbrev pub is_ended : List ℕ → Bool
 is_ended [] = false
 is_ended (b ∷ bytes) = length (rest (b ∷ bytes)) == 0
@@ -134,7 +134,7 @@ feed_behind text = if is_ended text then [] else ascii.line_feed ∷ []
 abbrev pub with_line : List ℕ → Setting → List ℕ
 with_line text set = text ++ feed_behind text ++ set_line set
 
--- a text with sets at their lines, and behind it those that have none
+-- a text with sets at their lines, and after it those that have none
 abbrev pub edited_text : List Setting → List ℕ → List ℕ
 edited_text sets text = fold with_line (edited_lines sets text) (filter (λ set. set.line == 0) sets)
 

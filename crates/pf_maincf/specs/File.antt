@@ -4,14 +4,14 @@ use Rattle.std.specs.Prelude.{◌≡◌, ℕ, ◌++◌, List, Option, None, Some
 use Rattle.std.specs.Str.{is_utf8}
 use Rattle.pf_base.specs.Outside.FileList.{file_of, whole_file}
 use Rattle.pf_base.specs.Text.Printing.{printed_line}
-use Rattle.pf_base.specs.Outside.Told.{Tree}
+use Rattle.pf_base.specs.Outside.Known.{Tree}
 use Rattle.pf_base.specs.declared.pair.Pair.{Pair}
 use Rattle.pf_base.specs.declared.outside.reading.ReadFault.{ReadFault}
 use Rattle.pf_base.specs.declared.refused.Cause.{Cause}
 use Rattle.pf_base.specs.declared.refused.Cause.TheVariants.{C10, C15}
 use Rattle.pf_base.specs.declared.refused.Refused.{Refused}
 
--- the name of main.cf: it stands in the folder of -c
+-- the name of main.cf: it is in the folder of -c
 abbrev pub conf_name : Option (List ℕ) → List ℕ
 conf_name None = codes "main.cf"
 conf_name (Some folder) = folder ++ codes "/main.cf"

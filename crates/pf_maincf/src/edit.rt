@@ -173,7 +173,7 @@ fn edited_text(
 impl MainCf {
     /// The text of a main.cf after these are set (postconf(1), -e). The physical lines of the last logical line of each name
     /// give way to one line `name = value`, with both its blanks for an empty value too, ended by a line feed; ignored lines
-    /// between them stay and come behind it. Names that the text does not set come as such lines at its end. Every other byte
+    /// between them stay and come after it. Names that the text does not set come as such lines at its end. Every other byte
     /// stays. A text that `read` refuses is refused alike. The lines of the sets count for nothing. What comes is read again with
     /// the set values, and each other name has the value that it had.
     pub fn edit(

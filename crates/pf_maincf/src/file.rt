@@ -1,7 +1,7 @@
 //! main.cf as a file.
 ghost use Rattle.std.specs.Prelude.{◌≡◌, ◌≢◌, List as Seq, Some, Err, IfOk};
 ghost use Rattle.std.specs.Str.{IsUtf8};
-ghost use Rattle.pf_base.specs.Outside.Told.{failed_tree};
+ghost use Rattle.pf_base.specs.Outside.Known.{failed_tree};
 ghost use Rattle.pf_base.specs.declared.pair.Pair.{Pair};
 ghost use Rattle.pf_maincf.specs.Clauses.Faults.{Answers};
 ghost use Rattle.pf_maincf.specs.File as spec;
@@ -21,7 +21,7 @@ pub enum FileFault {
     NoMemory,
 }
 
-/// The name of main.cf in the folder of `-c`, as both stand, with `/` between them; `main.cf` alone where there is none
+/// The name of main.cf in the folder of `-c`, as both are, with `/` between them; `main.cf` alone where there is none
 /// (postconf(1), -c).
 pub fn conf_name(alloc: Global, folder: &Option<Bytes>) -> Result<Bytes, NoMemory>
     ensures { IfOk result (λ file. file ≡ spec.conf_name folder.now) }
@@ -70,11 +70,11 @@ fn file_refused(alloc: Global, file: &[u8], cause: Cause) -> Result<Bytes, FileF
 /// The text of the main.cf of this name; a name that is no UTF-8 is that of no file. `Failed` comes only where the count of faults of
 /// `files` rose by one.
 pub fn conf_text<F: Files>(alloc: Global, file: &[u8], files: &mut F) -> Result<Bytes, FileFault>
-    ensures told { (all : Seq Pair) → (F.told files.old).content ≡ Some all
+    ensures known { (all : Seq Pair) → (F.known files.old).content ≡ Some all
         → Answers (spec.conf_text file.now (bytes_in all file.now)) result }
     ensures text { IfOk result (λ text. IsUtf8 file.now) }
-    ensures failed { result ≡ Err FileFault.Failed → Kept (failed_tree (F.told files.old)) (F.told files.new) }
-    ensures kept { result ≢ Err FileFault.Failed → Kept (F.told files.old) (F.told files.new) }
+    ensures failed { result ≡ Err FileFault.Failed → Kept (failed_tree (F.known files.old)) (F.known files.new) }
+    ensures kept { result ≢ Err FileFault.Failed → Kept (F.known files.old) (F.known files.new) }
 {
     let Ok(name) = str::from_utf8(file) else {
         return file_refused(alloc, file, Cause::C10);

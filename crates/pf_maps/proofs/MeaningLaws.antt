@@ -21,7 +21,7 @@ use Rattle.pf_maps.specs.Meanings.{address_found, all_partial, cidr_meaning, fir
 use Rattle.pf_maps.specs.declared.node.Node.{Node}
 use Rattle.pf_maps.specs.declared.node.Node.TheVariants as node
 
--- what stands behind tables
+-- what is after tables
 drop_nothing : {A : Type 0} (n : ℕ) (xs : List A) → xs ≡ [] → drop n xs ≡ []
 drop_nothing n [] is = by n
   where
@@ -221,5 +221,5 @@ meaning_has : (nodes : Option (List Node)) → HasAll (meaning_in nodes)
 meaning_has None = fail_has_all
 meaning_has (Some nodes) = has_all nodes
 
-pub told_all : (tables : List (List Node)) (id : ℕ) (values : Values) → Some (values_of tables) ≡ Some values → HasAll (values id)
-told_all tables id values tells = let e : values_of tables ≡ values = cc in subst (λ (vs : Values). HasAll (vs id)) e (meaning_has (slice_get tables id))
+pub known_all : (tables : List (List Node)) (id : ℕ) (values : Values) → Some (values_of tables) ≡ Some values → HasAll (values id)
+known_all tables id values knows = let e : values_of tables ≡ values = cc in subst (λ (vs : Values). HasAll (vs id)) e (meaning_has (slice_get tables id))

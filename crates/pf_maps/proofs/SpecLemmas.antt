@@ -21,33 +21,33 @@ use Rattle.pf_maps.specs.declared.specification.Group.{Group}
 use Rattle.pf_maps.specs.declared.specification.SpecNode.{SpecNode}
 
 -- the nodes of one text more
-pub member_added : (nodes : List ℕ → Option (List SpecNode)) (front now : List SpecNode) (text : List ℕ) (texts : List (List ℕ))
-    → behind front (nodes text) ≡ Some now → behind front (members_nodes nodes (text ∷ texts)) ≡ behind now (members_nodes nodes texts)
-member_added nodes front now text texts added = by (nodes text) added
+pub member_added : (nodes : List ℕ → Option (List SpecNode)) (prefix now : List SpecNode) (text : List ℕ) (texts : List (List ℕ))
+    → behind prefix (nodes text) ≡ Some now → behind prefix (members_nodes nodes (text ∷ texts)) ≡ behind now (members_nodes nodes texts)
+member_added nodes prefix now text texts added = by (nodes text) added
   where
-    more : (first : List SpecNode) → front ++ first ≡ now → (rest : Option (List SpecNode))
-        → behind front (rest >>= λ more. Some (first ++ more)) ≡ behind now rest
+    more : (first : List SpecNode) → prefix ++ first ≡ now → (rest : Option (List SpecNode))
+        → behind prefix (rest >>= λ more. Some (first ++ more)) ≡ behind now rest
     more first e None = refl
-    more first e (Some rest) = ap Some (sym (append_assoc front first rest) ∙ ap (λ xs. xs ++ rest) e)
+    more first e (Some rest) = ap Some (sym (append_assoc prefix first rest) ∙ ap (λ xs. xs ++ rest) e)
 
-    by : (o : Option (List SpecNode)) → behind front o ≡ Some now
-        → behind front (o >>= λ first. members_nodes nodes texts >>= λ more. Some (first ++ more)) ≡ behind now (members_nodes nodes texts)
+    by : (o : Option (List SpecNode)) → behind prefix o ≡ Some now
+        → behind prefix (o >>= λ first. members_nodes nodes texts >>= λ more. Some (first ++ more)) ≡ behind now (members_nodes nodes texts)
     by None e = cc
-    by (Some first) e = let same : front ++ first ≡ now = cc in more first same (members_nodes nodes texts)
+    by (Some first) e = let same : prefix ++ first ≡ now = cc in more first same (members_nodes nodes texts)
 
 -- a text that names no table
-pub member_refused : (nodes : List ℕ → Option (List SpecNode)) (front : List SpecNode) (text : List ℕ) (texts : List (List ℕ))
-    → behind front (nodes text) ≡ None → behind front (members_nodes nodes (text ∷ texts)) ≡ None
-member_refused nodes front text texts none = by (nodes text) none
+pub member_refused : (nodes : List ℕ → Option (List SpecNode)) (prefix : List SpecNode) (text : List ℕ) (texts : List (List ℕ))
+    → behind prefix (nodes text) ≡ None → behind prefix (members_nodes nodes (text ∷ texts)) ≡ None
+member_refused nodes prefix text texts none = by (nodes text) none
   where
-    by : (o : Option (List SpecNode)) → behind front o ≡ None
-        → behind front (o >>= λ first. members_nodes nodes texts >>= λ more. Some (first ++ more)) ≡ None
+    by : (o : Option (List SpecNode)) → behind prefix o ≡ None
+        → behind prefix (o >>= λ first. members_nodes nodes texts >>= λ more. Some (first ++ more)) ≡ None
     by None e = refl
     by (Some first) e = cc
 
 -- no text is left
-pub members_done : (front : List SpecNode) → Some (front ++ []) ≡ behind front (Some [])
-members_done front = refl
+pub members_done : (prefix : List SpecNode) → Some (prefix ++ []) ≡ behind prefix (Some [])
+members_done prefix = refl
 
 -- unions and pipes
 pub no_level : (group : Group) (name : List ℕ) → groups_at 0 group name ≡ None
@@ -62,13 +62,13 @@ a_level (suc levels) group name h = let e : levels ≡ suc levels - 1 = omega ar
 pub no_members : (nodes : List ℕ → Option (List SpecNode)) (group : Group) (name : List ℕ) → members name ≡ None → group_of nodes group name ≡ None
 no_members nodes group name none = rw none refl
 
-pub group_added : (nodes : List ℕ → Option (List SpecNode)) (group : Group) (name : List ℕ) (front : List SpecNode) (texts : List (List ℕ)) → members name ≡ Some texts
-    → behind front (group_of nodes group name) ≡ behind (front ++ group_node group (length texts) ∷ []) (members_nodes nodes texts)
-group_added nodes group name front texts some = rw some (by (members_nodes nodes texts))
+pub group_added : (nodes : List ℕ → Option (List SpecNode)) (group : Group) (name : List ℕ) (prefix : List SpecNode) (texts : List (List ℕ)) → members name ≡ Some texts
+    → behind prefix (group_of nodes group name) ≡ behind (prefix ++ group_node group (length texts) ∷ []) (members_nodes nodes texts)
+group_added nodes group name prefix texts some = rw some (by (members_nodes nodes texts))
   where
-    by : (o : Option (List SpecNode)) → behind front (o >>= λ more. Some (group_node group (length texts) ∷ more)) ≡ behind (front ++ group_node group (length texts) ∷ []) o
+    by : (o : Option (List SpecNode)) → behind prefix (o >>= λ more. Some (group_node group (length texts) ∷ more)) ≡ behind (prefix ++ group_node group (length texts) ∷ []) o
     by None = refl
-    by (Some more) = ap Some (sym (append_assoc front (group_node group (length texts) ∷ []) more))
+    by (Some more) = ap Some (sym (append_assoc prefix (group_node group (length texts) ∷ []) more))
 
 pub by_levels : (levels : ℕ) (text : List ℕ) → nodes_of levels text ≡ parted (groups_at levels) text
 unfolding nodes_of groups_at

@@ -89,7 +89,7 @@ abbrev pub firsts : ℕ → List Meaning → List Meaning
 firsts zero meanings = []
 firsts (suc count) meanings = first_meaning meanings ∷ firsts count (drop 1 meanings)
 
--- what a node means in front of others, of which a union or a pipe has the first ones as its members
+-- what a node means before others, of which a union or a pipe has the first ones as its members
 abbrev pub onto : Node → List Meaning → List Meaning
 onto (node.Text table) behind = keyed_meaning table ∷ behind
 onto (node.Cidr table) behind = cidr_meaning table ∷ behind
@@ -99,7 +99,7 @@ onto node.Fail behind = fail_meaning ∷ behind
 onto (node.Union count) behind = union_meaning (firsts count behind) ∷ drop count behind
 onto (node.Pipe count) behind = pipe_meaning (firsts count behind) ∷ drop count behind
 
--- what tables mean whose nodes stand in turn, each before its members
+-- what tables mean whose nodes are in turn, each before its members
 abbrev pub meanings_of : List Node → List Meaning
 meanings_of [] = []
 meanings_of (one ∷ nodes) = onto one (meanings_of nodes)

@@ -70,7 +70,7 @@ nodes_opened files place folds (one ∷ nodes) = do
   more ← nodes_opened files place folds nodes
   Ok (opened ∷ more)
 
--- the table of a text that stands at this place
+-- the table of a text that is at this place
 abbrev pub table_opened : List Pair → Bool → Place → List ℕ → Result (List Node) Refused
 table_opened files folds place text = do
   nodes ← spec_of place.file place.line text

@@ -1,5 +1,5 @@
 -- What the text of a table names (DATABASE_README). How unions and pipes are written and how deep they may be nested, and that what
--- stands in the braces of `static:` is trimmed, is postgate's own.
+-- is in the braces of `static:` is trimmed, is postgate's own.
 use Rattle.std.specs.Prelude.{ℕ, zero, suc, ◌+◌, ◌++◌, ◌==◌, Bool, false, List, [], ◌∷◌, Option, None, Some, Result, Ok, Err, codes, length, take, drop, if◌then◌else◌}
 use Rattle.std.specs.List.{position}
 use Rattle.std.specs.Option.{option_map, is_some}
@@ -18,7 +18,7 @@ use Rattle.pf_maps.specs.declared.specification.Group.TheVariants as group
 use Rattle.pf_maps.specs.declared.specification.SpecNode.{SpecNode}
 use Rattle.pf_maps.specs.declared.specification.SpecNode.TheVariants as node
 
--- what stands in the brace that a text begins with, where nothing stands behind its partner
+-- what is in the brace that a text begins with, where nothing is after its partner
 abbrev pub braced : List ℕ → Option (List ℕ)
 braced [] = None
 braced (b ∷ text) = if b == ascii.left_brace then in_brace text else None
@@ -33,7 +33,7 @@ text_node name = option_map node.Text (file_name name)
 abbrev pub cidr_node : List ℕ → Option SpecNode
 cidr_node name = option_map node.Cidr (file_name name)
 
--- `inline:{ITEMS}`: what stands in the brace is the text of a table
+-- `inline:{ITEMS}`: what is in the brace is the text of a table
 abbrev pub is_inline : List ℕ → Bool
 is_inline text = is_some (inline_pairs false text)
 
@@ -50,7 +50,7 @@ fixed_value (b ∷ name) = if b == ascii.left_brace then option_map trimmed (in_
 abbrev pub fixed_node : List ℕ → Option SpecNode
 fixed_node name = option_map node.Fixed (fixed_value name)
 
--- the node of a table that holds no other, by what stands before and behind the colon
+-- the node of a table that holds no other, by what is before and after the colon
 unfoldable pub leaf : List ℕ → List ℕ → Option SpecNode
 leaf kind name =
     if bytes_eq kind (codes "texthash") then text_node name
@@ -91,7 +91,7 @@ members_nodes nodes (text ∷ texts) = do
   more ← members_nodes nodes texts
   Some (first ++ more)
 
--- a union or a pipe, and its members behind it
+-- a union or a pipe, and its members after it
 abbrev pub group_of : (List ℕ → Option (List SpecNode)) → Group → List ℕ → Option (List SpecNode)
 group_of nodes group name = do
   texts ← members name

@@ -10,7 +10,7 @@ pub(crate) enum Node {
     Inline(Inline),
     Fixed(StaticTable),
     Fail,
-    /// The number of its members, which stand behind it, each with its own.
+    /// The number of its members, which are after it, each with its own.
     Union(u64),
     Pipe(u64),
 }

@@ -51,7 +51,7 @@ fn table_text<F: Files>(
     name: &[u8],
     files: &mut F,
 ) -> Result<Bytes, OpenFault>
-    ensures { Opens (F.told files.old) (F.told files.new) (λ all. opening.table_text all place.now name.now) result }
+    ensures { Opens (F.known files.old) (F.known files.new) (λ all. opening.table_text all place.now name.now) result }
 {
     let Ok(text) = str::from_utf8(name) else {
         return Err(OpenFault::of(refused(
@@ -89,7 +89,7 @@ fn open_text<F: Files>(
     name: &[u8],
     files: &mut F,
 ) -> Result<Node, OpenFault>
-    ensures { Opens (F.told files.old) (F.told files.new) (λ all. opening.text_opened all place.now folded name.now) result }
+    ensures { Opens (F.known files.old) (F.known files.new) (λ all. opening.text_opened all place.now folded name.now) result }
 {
     let text = table_text(alloc, place, name, files)?;
     match TextTable::read(alloc, name, text.as_slice(), folded, Repeats::First) {
@@ -104,7 +104,7 @@ fn open_cidr<F: Files>(
     name: &[u8],
     files: &mut F,
 ) -> Result<Node, OpenFault>
-    ensures { Opens (F.told files.old) (F.told files.new) (λ all. opening.cidr_opened all place.now name.now) result }
+    ensures { Opens (F.known files.old) (F.known files.new) (λ all. opening.cidr_opened all place.now name.now) result }
 {
     let text = table_text(alloc, place, name, files)?;
     match CidrTable::read(alloc, name, text.as_slice()) {
@@ -148,7 +148,7 @@ fn open_node<F: Files>(
     node: &SpecNode,
     files: &mut F,
 ) -> Result<Node, OpenFault>
-    ensures { Opens (F.told files.old) (F.told files.new) (λ all. opening.node_opened all place.now folded node.now) result }
+    ensures { Opens (F.known files.old) (F.known files.new) (λ all. opening.node_opened all place.now folded node.now) result }
 {
     match node {
         SpecNode::Text(name) => open_text(alloc, place, folded, name.as_slice(), files),
@@ -168,7 +168,7 @@ fn open_nodes<F: Files>(
     nodes: &[SpecNode],
     files: &mut F,
 ) -> Result<List<Node>, OpenFault>
-    ensures { Opens (F.told files.old) (F.told files.new) (λ all. opening.nodes_opened all place.now folded nodes.now) result }
+    ensures { Opens (F.known files.old) (F.known files.new) (λ all. opening.nodes_opened all place.now folded nodes.now) result }
 {
     let mut opened = List::new(alloc);
     for node in nodes {
@@ -187,7 +187,7 @@ fn open_table<F: Files>(
     text: &[u8],
     files: &mut F,
 ) -> Result<List<Node>, OpenFault>
-    ensures { Opens (F.told files.old) (F.told files.new) (λ all. opening.table_opened all folded place.now text.now) result }
+    ensures { Opens (F.known files.old) (F.known files.new) (λ all. opening.table_opened all folded place.now text.now) result }
 {
     match spec(alloc, place.file.as_slice(), place.line, text) {
         Ok(nodes) => open_nodes(alloc, place, folded, nodes.as_slice(), files),
@@ -202,7 +202,7 @@ pub(crate) fn open_tables<F: Files>(
     folded: bool,
     files: &mut F,
 ) -> Result<List<List<Node>>, OpenFault>
-    ensures { Opens (F.told files.old) (F.told files.new) (λ all. opening.tables_opened all folded specs.now) result }
+    ensures { Opens (F.known files.old) (F.known files.new) (λ all. opening.tables_opened all folded specs.now) result }
 {
     let mut tables = List::new(alloc);
     for place in 0..specs.len() {

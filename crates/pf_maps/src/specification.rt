@@ -12,7 +12,7 @@ use pf_base::{Bytes, Cause, ConfFault, List, NoMemory, WordsFault, trimmed, word
 use pf_table::{Inline, in_brace, refused};
 use std::alloc::Global;
 
-// How deep unions and pipes may stand in one another.
+// How deep unions and pipes may be in one another.
 const LEVELS: u64 = 20;
 
 /// A table that a text names, or one that is made of others.
@@ -28,7 +28,7 @@ pub enum SpecNode {
     Fixed(Bytes),
     /// `fail:`.
     Fail,
-    /// `unionmap:`, with the number of its members, which stand behind it, each with its own.
+    /// `unionmap:`, with the number of its members, which are after it, each with its own.
     Union(u64),
     /// `pipemap:`, likewise.
     Pipe(u64),
@@ -59,7 +59,7 @@ fn colon(text: &[u8]) -> Option<usize>
     text.iter().position(|b| *b == b':')
 }
 
-// What stands in the brace that a text begins with, where nothing stands behind its partner.
+// What is in the brace that a text begins with, where nothing is after its partner.
 fn braced(text: &[u8]) -> Option<&[u8]>
     ensures { option_copied result ≡ naming.braced text.now }
 {
@@ -126,7 +126,7 @@ fn inline_node(alloc: Global, name: &[u8]) -> Result<Option<SpecNode>, NoMemory>
     Ok(Some(SpecNode::Inline(Bytes::from_slice(alloc, text)?)))
 }
 
-// The value of `static:`, in braces or as it stands.
+// The value of `static:`, in braces or as it is.
 fn fixed_value(name: &[u8]) -> Option<&[u8]>
     ensures { option_copied result ≡ naming.fixed_value name.now }
 {
@@ -262,7 +262,7 @@ fn add_group(
     add_members(alloc, levels - 1, texts.as_slice(), nodes)
 }
 
-// Adds the nodes of a text, in which so many levels of unions and pipes may stand; false where it names no table.
+// Adds the nodes of a text, in which so many levels of unions and pipes may be; false where it names no table.
 #[cycle(nodes)]
 fn add_nodes(
     alloc: Global,
@@ -296,7 +296,7 @@ fn nodes_of(alloc: Global, text: &[u8]) -> Result<Option<List<SpecNode>>, NoMemo
 }
 
 /// The tables that a text names, the outermost first: `texthash:FILE`, `cidr:FILE`, `inline:{KEY=VALUE ..}`, `static:VALUE` or
-/// `static:{VALUE}`, `fail:NAME`, `unionmap:{TEXT, ..}` and `pipemap:{TEXT, ..}`, whose members stand behind them in order, each
+/// `static:{VALUE}`, `fail:NAME`, `unionmap:{TEXT, ..}` and `pipemap:{TEXT, ..}`, whose members are after them in order, each
 /// with its own (DATABASE_README). A text of another type, without a colon, with braces or items that are not of its form, a
 /// file name that is no UTF-8, a union or pipe without members or nested more than 20 deep, is refused as C9, with this file and
 /// line and the whole text as its name.

@@ -40,7 +40,7 @@ impl Tables {
         folded: bool,
         files: &mut F,
     ) -> Result<Tables, OpenFault>
-        ensures { Opens (F.told files.old) (F.told files.new) (λ all. seen.opened (opening.tables_opened all folded specs.now)) result }
+        ensures { Opens (F.known files.old) (F.known files.new) (λ all. seen.opened (opening.tables_opened all folded specs.now)) result }
     {
         let tables = open_tables(alloc, specs, folded, files)?;
         Ok(Tables { tables, finds: 0 })

@@ -1,4 +1,4 @@
-//! What tables answer that stand in turn, each before its members.
+//! What tables answer that are in turn, each before its members.
 ghost use Rattle.std.specs.Prelude.{◌≡◌, ◌≤◌, ◌-◌, Ok, drop, length, IfOk};
 ghost use Rattle.pf_asks.specs.Looking.{answer_of};
 ghost use Rattle.pf_base.specs.Clauses.Unless.{Unless};
@@ -11,7 +11,7 @@ use pf_base::{Bytes, List, NoMemory};
 use pf_table::Table;
 use std::alloc::Global;
 
-// What stands behind the first table.
+// What is after the first table.
 #[cycle(passing)]
 fn behind_table(nodes: &[Node]) -> &[Node]
     ensures is { meanings_of result.now ≡ drop 1 (meanings_of nodes.now) }
@@ -27,7 +27,7 @@ fn behind_table(nodes: &[Node]) -> &[Node]
     }
 }
 
-// What stands behind the first tables.
+// What is after the first tables.
 #[cycle(passing)]
 fn behind_tables(nodes: &[Node], count: u64) -> &[Node]
     ensures is { meanings_of result.now ≡ drop count (meanings_of nodes.now) }
@@ -52,7 +52,7 @@ fn joined(found: Found, other: Found) -> Result<Found, TableFault>
     }
 }
 
-// A value, and behind a comma the other one.
+// A value, and after a comma the other one.
 fn joined_to(mut value: Bytes, other: Found) -> Result<Found, TableFault>
     ensures { Unless result TableFault.NoMemory (λ r. r ≡ Ok (meanings.joined (Found.Value value) other)) }
 {

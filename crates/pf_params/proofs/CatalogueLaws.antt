@@ -8,12 +8,12 @@ pub count : length catalogue ≡ PARAMS
 unfolding catalogue
 count = refl
 
--- none is left behind the last one
+-- none is left after the last one
 pub ended : drop PARAMS catalogue ≡ []
 unfolding catalogue
 ended = refl
 
--- the parameter at a place comes before those behind it
+-- the parameter at a place comes before those after it
 pub drop_row : (place : ℕ) → place < PARAMS → drop place catalogue ≡ row_at place ∷ drop (place + 1) catalogue
 drop_row place within = drop-cons catalogue place _ (omega (arith, count)) ∙ ap (λ n. row_at place ∷ drop n catalogue) (one place) where
   one : (n : ℕ) → suc n ≡ n + 1

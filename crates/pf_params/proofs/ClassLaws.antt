@@ -41,7 +41,7 @@ pub all_read : (r : Result (List Reading) Refused) → result_err r ≡ None →
 all_read (Ok readings) is = refl
 all_read (Err refusal) is = cc
 
--- no row behind one has a lesser name
+-- no row after one has a lesser name
 abbrev is_least : List ℕ → List Row → Bool
 is_least name rows = list_all (λ (r : Row). not (is_lt (slice_cmp nat_cmp r.name name))) rows
 
@@ -73,9 +73,9 @@ module _ (s : Conf) where
       let parts = and_parts (is_least row.name rows) (ascend rows) up in
       by_reading (reading_of s row) parts.0 (first_is_least rows parts.1)
     where
-      behind : (front : List Reading) (r : Result (List Reading) Refused) → result_err r ≡ result_err (before front r)
-      behind front (Ok readings) = refl
-      behind front (Err refusal) = refl
+      behind : (prefix : List Reading) (r : Result (List Reading) Refused) → result_err r ≡ result_err (before prefix r)
+      behind prefix (Ok readings) = refl
+      behind prefix (Err refusal) = refl
 
       by_reading : (r : Result Reading Cause) → is_least row.name rows ≡ true → fold with_lesser None (refusals s rows) ≡ result_err (readings_of s rows)
           → fold with_lesser None (cons_option (result_err (result_map_both (λ reading. reading) (refusal_of s row.name) r)) (refusals s rows)) ≡ result_err (or_refused s row r (readings_of s rows))

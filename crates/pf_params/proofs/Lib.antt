@@ -1,7 +1,7 @@
 pub mod CatalogueLaws
 pub mod ClassLaws
 pub mod KindLaws
-pub mod PresetLaws
+pub mod DefaultLaws
 pub mod ReadingLaws
 mod Rows
 pub mod SettledLaws

@@ -51,9 +51,9 @@ abbrev pub or_refused : Conf → Row → Result Reading Cause → Result (List R
 or_refused s row x behind = result_map_both (λ reading. reading) (refusal_of s row.name) x >>= (λ reading. before (reading ∷ []) behind)
 
 -- all of them
-front_read : (s : Conf) (row : Row) (rows : List Row) (readings : List Reading) → readings_of s (row ∷ rows) ≡ Ok readings
+prefix_read : (s : Conf) (row : Row) (rows : List Row) (readings : List Reading) → readings_of s (row ∷ rows) ≡ Ok readings
     → (first : Reading) × (rest : List Reading) × (reading_of s row ≡ Ok first) × (readings_of s rows ≡ Ok rest) × (readings ≡ first ∷ rest)
-front_read s row rows readings is = by_first (reading_of s row) (readings_of s rows) refl refl is where
+prefix_read s row rows readings is = by_first (reading_of s row) (readings_of s rows) refl refl is where
   by_first : (x : Result Reading Cause) (y : Result (List Reading) Refused) → reading_of s row ≡ x → readings_of s rows ≡ y → or_refused s row x y ≡ Ok readings
       → (first : Reading) × (rest : List Reading) × (reading_of s row ≡ Ok first) × (readings_of s rows ≡ Ok rest) × (readings ≡ first ∷ rest)
   by_first (Err cause) y e f is = cc
@@ -63,32 +63,32 @@ front_read s row rows readings is = by_first (reading_of s row) (readings_of s r
 pub readings_count : (s : Conf) (rows : List Row) (readings : List Reading) → readings_of s rows ≡ Ok readings → length readings ≡ length rows
 readings_count s [] readings is = let none : readings ≡ [] = cc in ap length none
 readings_count s (row ∷ rows) readings is =
-    let front = front_read s row rows readings is in
-    ap length front.4 ∙ ap suc (readings_count s rows front.1 front.3)
+    let prefix = prefix_read s row rows readings is in
+    ap length prefix.4 ∙ ap suc (readings_count s rows prefix.1 prefix.3)
 
 pub reading_there : (s : Conf) (rows : List Row) (readings : List Reading) (place : ℕ) (r : Reading) (other : Row) → readings_of s rows ≡ Ok readings → slice_get readings place ≡ Some r
     → reading_of s (get_or rows place other) ≡ Ok r
 reading_there s [] readings place r other is found =
     let none : readings ≡ [] = cc in let nothing : slice_get {X = Reading} [] place ≡ Some r = ap (λ rs. slice_get rs place) (sym none) ∙ found in cc
 reading_there s (row ∷ rows) readings zero r other is found =
-    let front = front_read s row rows readings is in
-    let same : Some front.0 ≡ Some r = ap (λ rs. slice_get rs 0) (sym front.4) ∙ found in front.2 ∙ cc
+    let prefix = prefix_read s row rows readings is in
+    let same : Some prefix.0 ≡ Some r = ap (λ rs. slice_get rs 0) (sym prefix.4) ∙ found in prefix.2 ∙ cc
 reading_there s (row ∷ rows) readings (suc place) r other is found =
-    let front = front_read s row rows readings is in
-    reading_there s rows front.1 place r other front.3 (ap (λ rs. slice_get rs (suc place)) (sym front.4) ∙ found)
+    let prefix = prefix_read s row rows readings is in
+    reading_there s rows prefix.1 place r other prefix.3 (ap (λ rs. slice_get rs (suc place)) (sym prefix.4) ∙ found)
 
 -- a refusal of the next one is that of all
-pub refused_next : (s : Conf) (front : List Reading) (row : Row) (rows : List Row) (cause : Cause) → reading_of s row ≡ Err cause
-    → before front (readings_of s (row ∷ rows)) ≡ Err (refusal_of s row.name cause)
-refused_next s front row rows cause is = ap (λ x. before front (or_refused s row x (readings_of s rows))) is
+pub refused_next : (s : Conf) (prefix : List Reading) (row : Row) (rows : List Row) (cause : Cause) → reading_of s row ≡ Err cause
+    → before prefix (readings_of s (row ∷ rows)) ≡ Err (refusal_of s row.name cause)
+refused_next s prefix row rows cause is = ap (λ x. before prefix (or_refused s row x (readings_of s rows))) is
 
 -- one more that is read
-pub read_next : (s : Conf) (front : List Reading) (row : Row) (rows : List Row) (r : Reading) → reading_of s row ≡ Ok r
-    → before (front ++ (r ∷ [])) (readings_of s rows) ≡ before front (readings_of s (row ∷ rows))
-read_next s front row rows r is = by_rest (readings_of s rows) ∙ sym (ap (λ x. before front (or_refused s row x (readings_of s rows))) is) where
-  by_rest : (y : Result (List Reading) Refused) → before (front ++ (r ∷ [])) y ≡ before front (before (r ∷ []) y)
-  by_rest (Ok rest) = ap Ok (append_assoc front (r ∷ []) rest)
+pub read_next : (s : Conf) (prefix : List Reading) (row : Row) (rows : List Row) (r : Reading) → reading_of s row ≡ Ok r
+    → before (prefix ++ (r ∷ [])) (readings_of s rows) ≡ before prefix (readings_of s (row ∷ rows))
+read_next s prefix row rows r is = by_rest (readings_of s rows) ∙ sym (ap (λ x. before prefix (or_refused s row x (readings_of s rows))) is) where
+  by_rest : (y : Result (List Reading) Refused) → before (prefix ++ (r ∷ [])) y ≡ before prefix (before (r ∷ []) y)
+  by_rest (Ok rest) = ap Ok (append_assoc prefix (r ∷ []) rest)
   by_rest (Err refusal) = refl
 
-pub read_last : (s : Conf) (front : List Reading) (rows : List Row) → rows ≡ [] → before front (readings_of s rows) ≡ Ok front
-read_last s front rows none = ap (λ rs. before front (readings_of s rs)) none ∙ ap Ok (append-nil front)
+pub read_last : (s : Conf) (prefix : List Reading) (rows : List Row) → rows ≡ [] → before prefix (readings_of s rows) ≡ Ok prefix
+read_last s prefix rows none = ap (λ rs. before prefix (readings_of s rs)) none ∙ ap Ok (append-nil prefix)

@@ -21,15 +21,15 @@ use Rattle.pf_params.specs.Accepted.{restriction_lists, with_class, with_named, 
 use Rattle.pf_params.specs.Classes.{class_names, class_rows, classes_of}
 use Rattle.pf_params.specs.Clauses.Readings.{readings_of}
 use Rattle.pf_params.specs.Parameters.{raw_text, reading_of, refusal_of, refusals, with_lesser}
-use Rattle.pf_params.specs.Sources.{preset_of}
+use Rattle.pf_params.specs.Sources.{default_value_of}
 use Rattle.pf_params.specs.Settled.{cause_of, settled, settled_source, value_in}
 
 -- each parameter stands for the default of its own row
-defaults_agree : map (λ (r : Row). preset_of r.name) catalogue ≡ map (λ (r : Row). r.preset) catalogue
+defaults_agree : map (λ (r : Row). default_value_of r.name) catalogue ≡ map (λ (r : Row). r.default_value) catalogue
 unfolding catalogue
 defaults_agree = refl
 
--- settings of a main.cf, and one behind them that stands in no file
+-- settings of a main.cf, and one after them that is in no file
 abbrev set : ℕ → List ℕ → List ℕ → Setting
 set line name value = record { line = line; name = name; value = value }
 
@@ -74,7 +74,7 @@ delay_reject = row (codes "smtpd_delay_reject") kind.FixedYes (Is (codes "yes"))
 abbrev subdomains : Row
 subdomains = row (codes "parent_domain_matches_subdomains") kind.Unset (Is [])
 
--- texts before the values of names stand in them: as set, as the default stands there, and the value where that is taken out of another one
+-- texts before the values of names are in them: as set, as the default is there, and the value where that is taken out of another one
 raw_texts : map (λ (r : Row). raw_text s r (codes "value")) (reject_code ∷ mail_name ∷ mydomain ∷ []) ≡ codes "$asked" ∷ codes "Postfix" ∷ codes "value" ∷ []
 raw_texts = refl
 

@@ -14,12 +14,12 @@ use Rattle.pf_maincf.specs.declared.setting.Setting.{Setting}
 use Rattle.pf_params.specs.Sources.{source_of}
 
 -- the last setting of a name counts
-source_set : (presets : List ℕ → Source) (settings : List Setting) (setting : Setting) (name : List ℕ)
-    → source_of presets (settings ++ (setting ∷ [])) name ≡ with_source (source_of presets settings) setting.name (Is setting.value) name
-source_set presets settings setting name =
-    ap (λ back. option_map_or (λ (s : Setting). Is s.value) (find (λ (s : Setting). bytes_eq s.name name) back) (presets name)) (reverse_last settings setting) ∙ by_test (bytes_eq setting.name name)
+source_set : (default_values : List ℕ → Source) (settings : List Setting) (setting : Setting) (name : List ℕ)
+    → source_of default_values (settings ++ (setting ∷ [])) name ≡ with_source (source_of default_values settings) setting.name (Is setting.value) name
+source_set default_values settings setting name =
+    ap (λ back. option_map_or (λ (s : Setting). Is s.value) (find (λ (s : Setting). bytes_eq s.name name) back) (default_values name)) (reverse_last settings setting) ∙ by_test (bytes_eq setting.name name)
   where
-    by_test : (t : Bool) → option_map_or (λ (s : Setting). Is s.value) (cond t (Some setting) (last_setting settings name)) (presets name) ≡ (if t then Is setting.value else source_of presets settings name)
+    by_test : (t : Bool) → option_map_or (λ (s : Setting). Is s.value) (cond t (Some setting) (last_setting settings name)) (default_values name) ≡ (if t then Is setting.value else source_of default_values settings name)
     by_test true = refl
     by_test false = refl
 
@@ -27,11 +27,11 @@ source_set presets settings setting name =
     reverse_last settings setting = reverse-append settings (setting ∷ [])
 
 -- one setting more
-pub set_more : (new : List (List ℕ × Kept)) (presets : List ℕ → Source) (settings more : List Setting) (setting : Setting)
-    → AreNames new (with_source (source_of presets settings) setting.name (Is setting.value)) → more ≡ settings ++ (setting ∷ [])
-    → AreNames new (source_of presets more)
-set_more new presets settings more setting are more_is name =
-    are name ∙ sym (ap kept (ap (λ xs. source_of presets xs name) more_is ∙ source_set presets settings setting name))
+pub set_more : (new : List (List ℕ × Kept)) (default_values : List ℕ → Source) (settings more : List Setting) (setting : Setting)
+    → AreNames new (with_source (source_of default_values settings) setting.name (Is setting.value)) → more ≡ settings ++ (setting ∷ [])
+    → AreNames new (source_of default_values more)
+set_more new default_values settings more setting are more_is name =
+    are name ∙ sym (ap kept (ap (λ xs. source_of default_values xs name) more_is ∙ source_set default_values settings setting name))
 
 -- the settings up to a place, and the one there
 pub take_more : (settings : List Setting) (i : ℕ) (setting : Setting) → i < length settings → setting ≡ get_or settings i setting → take (i + 1) settings ≡ take i settings ++ (setting ∷ [])

@@ -31,7 +31,7 @@ refusal_in s = fold with_lesser None (refusals s (rows_of s))
 unfoldable pub accepted : Conf → List Setting → Result Conf Refused
 accepted conf over = option_map_or Err (refusal_in (settled conf over)) (Ok (settled conf over))
 
--- the value of a parameter, and its text before the values of names stand in it
+-- the value of a parameter, and its text before the values of names are in it
 abbrev pub text_of : Conf → Row → List ℕ
 text_of s row = content (value_alone s row.name)
 

@@ -37,13 +37,13 @@ bad_value Unset = C14
 bad_value kind = C6
 
 -- the text of a default, which is the value where that is taken out of another one
-abbrev pub preset_text : Source → List ℕ → List ℕ
-preset_text (Is bytes) value = bytes
-preset_text (DomainOf name) value = value
+abbrev pub default_value_text : Source → List ℕ → List ℕ
+default_value_text (Is bytes) value = bytes
+default_value_text (DomainOf name) value = value
 
 -- the text of a parameter with this value
 abbrev pub raw_text : Conf → Row → List ℕ → List ℕ
-raw_text settled row value = option_map_or (λ (s : Setting). s.value) (last_setting settled.settings row.name) (preset_text row.preset value)
+raw_text settled row value = option_map_or (λ (s : Setting). s.value) (last_setting settled.settings row.name) (default_value_text row.default_value value)
 
 -- what is read of a parameter with this value, if that says something
 abbrev pub reading_if : Conf → Row → List ℕ → Option Value → Result Reading Cause

@@ -11,20 +11,20 @@ use Rattle.pf_expand.specs.declared.flaw.Flaw.{Flaw}
 use Rattle.pf_expand.specs.declared.flaw.Flaw.TheVariants.{BadForm, TooDeep, TooLong}
 use Rattle.pf_maincf.specs.Settings.{Conf}
 use Rattle.pf_maincf.specs.declared.setting.Setting.{Setting}
-use Rattle.pf_params.specs.Sources.{preset_of, source_of}
+use Rattle.pf_params.specs.Sources.{default_value_of, source_of}
 
--- a setting, at line 0 where it stands in no file
+-- a setting, at line 0 where it is in no file
 abbrev pub line_if : Bool → Setting → Setting
 line_if true setting = setting
 line_if false setting = record setting { line = 0 }
 
--- the settings of a main.cf, and behind them those that count after them
+-- the settings of a main.cf, and after them those that count after them
 abbrev pub settled : Conf → List Setting → Conf
 settled conf over = record { file = conf.file; settings = map (line_if true) conf.settings ++ map (line_if false) over }
 
 -- what a name stands for
 abbrev pub settled_source : Conf → List ℕ → Source
-settled_source settled name = source_of preset_of settled.settings name
+settled_source settled name = source_of default_value_of settled.settings name
 
 -- the cause of a refusal
 abbrev pub cause_of : Flaw → Cause
@@ -44,6 +44,6 @@ or_refused file value = result_map_both (λ bytes. bytes) (refused file) value
 abbrev pub value_in : Conf → List ℕ → Result (List ℕ) Refused
 value_in settled text = or_refused settled.file (expanded (settled_source settled) text)
 
--- the value of a name as it stands alone, one level above the names in a text
+-- the value of a name as it is alone, one level above the names in a text
 abbrev pub value_alone : Conf → List ℕ → Answer
 value_alone settled name = name_value (settled_source settled) (depth_limit + 1) name

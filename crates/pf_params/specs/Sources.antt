@@ -11,13 +11,13 @@ use Rattle.pf_maincf.specs.Settings.{last_setting}
 use Rattle.pf_maincf.specs.declared.setting.Setting.{Setting}
 
 -- what a name stands for by the parameter of that name among these; an empty text where there is none
-abbrev pub preset_among : List Row → List ℕ → Source
-preset_among rows name = option_map_or (λ (r : Row). r.preset) (find (λ (r : Row). bytes_eq r.name name) rows) (Is [])
+abbrev pub default_value_among : List Row → List ℕ → Source
+default_value_among rows name = option_map_or (λ (r : Row). r.default_value) (find (λ (r : Row). bytes_eq r.name name) rows) (Is [])
 
 -- what a name stands for that is not set
-abbrev pub preset_of : List ℕ → Source
-preset_of name = preset_among catalogue name
+abbrev pub default_value_of : List ℕ → Source
+default_value_of name = default_value_among catalogue name
 
 -- what a name stands for, where these are set
 abbrev pub source_of : (List ℕ → Source) → List Setting → List ℕ → Source
-source_of presets settings name = option_map_or (λ (s : Setting). Is s.value) (last_setting settings name) (presets name)
+source_of default_values settings name = option_map_or (λ (s : Setting). Is s.value) (last_setting settings name) (default_values name)

@@ -8,7 +8,7 @@ ghost use Rattle.pf_maincf.specs.Settings.{is_set, last_setting, line_of};
 ghost use Rattle.pf_params.specs.Settled as spec;
 
 use crate::refusals::text_refused;
-use crate::table::{set_names, set_presets};
+use crate::table::{set_default_values, set_names};
 use pf_base::{Bytes, ConfFault, List, NoMemory};
 use pf_expand::{Flaw, Names, Values};
 use pf_maincf::{MainCf, Setting};
@@ -35,7 +35,7 @@ impl Model for Known {
     ghost invariant = { λ s. AreNames s.values (settled_source s.main) };
 }
 
-// Adds settings behind others, at line 0 where they stand in no file.
+// Adds settings after others, at line 0 where they are in no file.
 fn add_settings(
     alloc: Global,
     all: &mut List<Setting>,
@@ -55,7 +55,7 @@ fn add_settings(
 }
 
 impl Known {
-    /// The settings of a main.cf, and behind them those that count after them, which have line 0 (postconf(5), main.cf
+    /// The settings of a main.cf, and after them those that count after them, which have line 0 (postconf(5), main.cf
     /// format; postconf(1), -o).
     pub fn new(alloc: Global, main: &MainCf, over: &List<Setting>) -> Result<Known, NoMemory>
         ensures { IfOk result (λ known. known ≡ spec.settled main.now over.now) }
@@ -64,7 +64,7 @@ impl Known {
         add_settings(alloc, &mut settings, main.settings().as_slice(), true)?;
         add_settings(alloc, &mut settings, over.as_slice(), false)?;
         let mut names = Names::new(alloc);
-        set_presets(alloc, &mut names)?;
+        set_default_values(alloc, &mut names)?;
         set_names(alloc, &mut names, settings.as_slice())?;
         let values = Values::new(alloc, names)?;
         let main = MainCf::new(alloc, main.file().copy(alloc)?, settings)?;
@@ -99,7 +99,7 @@ impl Known {
         self.main.is_set(name)
     }
 
-    /// The line of the last setting of a name, 0 where it stands in no file or is not set.
+    /// The line of the last setting of a name, 0 where it is in no file or is not set.
     pub fn line(&self, name: &[u8]) -> u64
         ensures { result ≡ line_of self.now name.now }
     {
@@ -126,7 +126,7 @@ impl Known {
         self.values.text(alloc, text)
     }
 
-    /// The value of a name as it stands alone, or why there is none.
+    /// The value of a name as it is alone, or why there is none.
     pub(crate) fn name_value(
         &self,
         alloc: Global,

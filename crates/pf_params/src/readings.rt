@@ -11,7 +11,7 @@ use pf_base::{Bytes, Cause, List, Meaning, NoMemory, Refused};
 use pf_catalogue::{Kind, PARAMS, Param, Row, Value, value_of};
 use std::alloc::Global;
 
-/// What is read of a parameter: the line of its last setting, from 1, 0 where it stands in no file or is not set; its text
+/// What is read of a parameter: the line of its last setting, from 1, 0 where it is in no file or is not set; its text
 /// before names are expanded; its value; and what that says.
 #[derive(Debug, Drop)]
 pub struct Reading {
@@ -92,7 +92,7 @@ impl Known {
         reading_of(alloc, self, p.row())
     }
 
-    /// The refusal of a name's setting, with the line of the last one, 0 where it stands in no file or is not set.
+    /// The refusal of a name's setting, with the line of the last one, 0 where it is in no file or is not set.
     pub fn refusal(&self, alloc: Global, name: &[u8], cause: Cause) -> Result<Refused, NoMemory>
         ensures { IfOk result (λ refusal. refusal ≡ spec.refusal_of self.now name.now cause) }
     {

@@ -83,7 +83,7 @@ fn read(
 }
 
 impl Settings {
-    /// The settings of a main.cf, and behind them those that count after them, which have line 0. Parameters and classes of
+    /// The settings of a main.cf, and after them those that count after them, which have line 0. Parameters and classes of
     /// restrictions are looked at in byte order of their names, and the first that is refused is named, with the line of its
     /// last setting, 0 where it is a default: as C5 where a dollar sign begins no form, as C4 where names are nested more
     /// than 100 deep, as C16 where a value is longer than 1,048,576 bytes, as C6 where a value is none of its kind, and as
@@ -98,7 +98,7 @@ impl Settings {
         }
     }
 
-    /// The settings as they stand.
+    /// The settings as they are.
     pub fn known(&self) -> &Known
         ensures { result.now ≡ self.now }
     {
@@ -119,7 +119,7 @@ impl Settings {
         self.readings.at(u64::from(p.place()))
     }
 
-    /// The text of a parameter's last setting, or its default, before the values of names stand in it.
+    /// The text of a parameter's last setting, or its default, before the values of names are in it.
     pub fn raw(&self, p: Param) -> &Bytes
         ensures { result.now ≡ spec.raw_of self.now (row_at p) }
     {
@@ -134,7 +134,7 @@ impl Settings {
         &self.reading(p).text
     }
 
-    /// The line of a parameter's last setting, from 1; 0 where it stands in no file or is not set.
+    /// The line of a parameter's last setting, from 1; 0 where it is in no file or is not set.
     pub fn line(&self, p: Param) -> u64
         ensures { result ≡ line_of self.now (row_at p).name }
     {
@@ -164,7 +164,7 @@ impl Settings {
         }
     }
 
-    /// The items of the list that is the value of a parameter. They may stand in a list of its kind.
+    /// The items of the list that is the value of a parameter. They may be in a list of its kind.
     pub fn items(&self, p: Param) -> &List<Bytes>
         requires { spec.is_list (row_at p).kind ≡ true }
         ensures items { result.now ≡ spec.items_of self.now (row_at p) }

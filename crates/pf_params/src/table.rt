@@ -5,7 +5,7 @@ ghost use Rattle.pf_base.specs.declared.meaning.Meaning.TheVariants.{Is};
 ghost use Rattle.pf_catalogue.specs.Catalogue.{row_at};
 ghost use Rattle.pf_expand.specs.Clauses.Meanings.{AreNames};
 ghost use Rattle.pf_expand.specs.Names.{with_source};
-ghost use Rattle.pf_params.specs.Sources.{preset_of, source_of};
+ghost use Rattle.pf_params.specs.Sources.{default_value_of, source_of};
 
 use pf_base::{Meaning, NoMemory};
 use pf_catalogue::{PARAMS, Param};
@@ -14,22 +14,22 @@ use pf_maincf::Setting;
 use std::alloc::Global;
 
 // Lets the name of a parameter stand for its default.
-fn set_preset(alloc: Global, names: &mut Names, p: Param) -> Result<(), NoMemory>
+fn set_default_value(alloc: Global, names: &mut Names, p: Param) -> Result<(), NoMemory>
     ensures { OnOk result ((sources : Seq ℕ → Source) → AreNames names.old sources
-        → AreNames names.new (with_source sources (row_at p).name (row_at p).preset)) }
+        → AreNames names.new (with_source sources (row_at p).name (row_at p).default_value)) }
 {
     let row = p.row();
     names.set(alloc, row.0, row.2)
 }
 
 /// Lets the names of parameters, where none stands for anything, stand for their defaults.
-pub(crate) fn set_presets(alloc: Global, names: &mut Names) -> Result<(), NoMemory>
-    ensures { OnOk result (AreNames names.old (λ name. Is []) → AreNames names.new preset_of) }
+pub(crate) fn set_default_values(alloc: Global, names: &mut Names) -> Result<(), NoMemory>
+    ensures { OnOk result (AreNames names.old (λ name. Is []) → AreNames names.new default_value_of) }
 {
     let mut left = PARAMS;
     while left > 0 {
         left -= 1;
-        set_preset(alloc, names, Param::at(left))?;
+        set_default_value(alloc, names, Param::at(left))?;
     }
     Ok(())
 }
@@ -41,7 +41,7 @@ pub(crate) fn set_names(
     names: &mut Names,
     settings: &[Setting],
 ) -> Result<(), NoMemory>
-    ensures { OnOk result ((presets : Seq ℕ → Source) → AreNames names.old presets → AreNames names.new (source_of presets settings.now)) }
+    ensures { OnOk result ((default_values : Seq ℕ → Source) → AreNames names.old default_values → AreNames names.new (source_of default_values settings.now)) }
 {
     for setting in settings {
         names.set(

@@ -1,4 +1,4 @@
-//! The real objects outside: streams, a file that is appended to, and files under their names. They tell contracts nothing of
+//! The real objects outside: streams, a file that is appended to, and files under their names. Contracts know nothing of
 //! their content, and count their faults, the bytes that were read, the reads that found the end, and the reads of files.
 ghost use Rattle.std.specs.Prelude.{◌≡◌, None, IfOk};
 ghost use Rattle.std.specs.Io.{ReadsAtMost};
@@ -34,7 +34,7 @@ impl<R: Drop> Reading<R> {
 }
 
 impl<R: Read + Drop> Source for Reading<R> {
-    ghost told = { λ source. record { left = None; given = source.given; ends = source.ends; ended = source.ended; faults = source.faults } };
+    ghost known = { λ source. record { left = None; given = source.given; ends = source.ends; ended = source.ended; faults = source.faults } };
 
     fn read(&mut self, buf: &mut [u8]) -> Result<usize, Failed> {
         match self.reader.read(buf) {
@@ -69,7 +69,7 @@ impl<W: Drop> Writing<W> {
 }
 
 impl<W: Write + Drop> Sink for Writing<W> {
-    ghost told = { λ sink. record { written = None; faults = sink.faults } };
+    ghost known = { λ sink. record { written = None; faults = sink.faults } };
 
     fn write(&mut self, piece: &[u8]) -> Result<(), OuterFault> {
         match self.writer.write_all(piece) {
@@ -125,7 +125,7 @@ impl<'a> FileSink<'a> {
 }
 
 impl Sink for FileSink<'_> {
-    ghost told = { λ sink. record { written = None; faults = sink.faults } };
+    ghost known = { λ sink. record { written = None; faults = sink.faults } };
 
     fn write(&mut self, piece: &[u8]) -> Result<(), OuterFault> {
         match self.append(piece) {
@@ -138,7 +138,7 @@ impl Sink for FileSink<'_> {
     }
 }
 
-/// The files of the system, under their names as they stand. What the first call on a name found, a plain file or nothing,
+/// The files of the system, under their names as they are. What the first call on a name found, a plain file or nothing,
 /// is what all later calls on it go by: the file stays open, and another that takes its name is not seen. A file that this run
 /// puts in its place counts from then on. A name of anything else is a fault.
 #[derive(Drop)]
@@ -159,7 +159,7 @@ impl<'a> RealFiles<'a> {
         }
     }
 
-    // Opens what stands under the name, where this is the first call on it.
+    // Opens what is under the name, where this is the first call on it.
     fn look(&mut self, name: &str) -> io::Result<()>
         ensures reads { self.new.reads ≡ self.old.reads }
         ensures faults { self.new.faults ≡ self.old.faults }
@@ -172,7 +172,7 @@ impl<'a> RealFiles<'a> {
         Ok(())
     }
 
-    // The file that stands under the name for this run; None where nothing does.
+    // The file that is under the name for this run; None where nothing does.
     fn file(&self, name: &str) -> Option<&PlainFile> {
         match self.found.get(name) {
             Some(Some(file)) => Some(file),
@@ -217,7 +217,7 @@ impl<'a> RealFiles<'a> {
 }
 
 impl Files for RealFiles<'_> {
-    ghost told = { λ files. record { content = None; reads = files.reads; faults = files.faults } };
+    ghost known = { λ files. record { content = None; reads = files.reads; faults = files.faults } };
 
     fn size(&mut self, name: &str) -> Result<Option<u64>, Failed> {
         match self.find_size(name) {

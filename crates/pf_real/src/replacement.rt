@@ -1,5 +1,5 @@
-//! The replacement of a file. The new one is written beside it, under its name with `.tmp` behind it, and put in its place once
-//! it is whole on the disk. It is locked meanwhile: only who has the lock of the file that stands under that name moves or
+//! The replacement of a file. The new one is written beside it, under its name with `.tmp` after it, and put in its place once
+//! it is whole on the disk. It is locked meanwhile: only who has the lock of the file that is under that name moves or
 //! removes it, so of several that replace one file at a time all but one fail.
 use crate::plain::{PlainFile, is_absent};
 use std::io::ErrorKind;
@@ -13,7 +13,7 @@ fn busy() -> io::Error {
     io::Error::new(ErrorKind::ResourceBusy, "another edit is at work")
 }
 
-// The file that a name stands for, behind links. A name of nothing stands for itself.
+// The file that a name stands for, after links. A name of nothing stands for itself.
 fn behind_links(rt: &HostRuntime, name: &str) -> io::Result<PathBuf> {
     match fs::symlink_metadata(rt, name) {
         Ok(metadata) if metadata.is_symlink() => fs::canonicalize(rt, name),

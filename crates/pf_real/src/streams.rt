@@ -13,7 +13,7 @@ fn is_closed<S: AsFd>(stream: &S) -> bool {
 }
 
 /// Takes up the descriptor of a standard stream that is closed, so that no file which is opened later is read or written as
-/// that stream. The root folder stands there from then on, open for reading: reading it as a stream is a fault, and so is
+/// that stream. The root folder is there from then on, open for reading: reading it as a stream is a fault, and so is
 /// writing it. Each stream before this one has to be taken up already, since the system gives the lowest number that is free.
 /// A fault where the stream is closed and the folder can not be opened.
 pub fn take_up<S: AsFd>(rt: &HostRuntime, stream: &S) -> io::Result<()> {

@@ -1,7 +1,7 @@
 -- Two pieces give what their bytes in turn give.
 use Rattle.std.proofs.Common.{◌≡◌, ℕ, true, false, List, [], ◌++◌, take, refl, sym, ap, ◌∙◌}
 use Rattle.std.proofs.lemmas.Bool.{false≢true}
-use Rattle.pf_base.proofs.ToldLemmas.{appended_more, appended_none}
+use Rattle.pf_base.proofs.KnownLemmas.{appended_more, appended_none}
 use Rattle.pf_base.specs.Text.Lines.{lines, rest}
 use Rattle.pf_base.specs.Clauses.Pieces.{unless_line}
 use Rattle.pf_base.specs.Outside.Objects.{Sinks, appended, joined}
@@ -13,19 +13,19 @@ use Rattle.pf_smtp.specs.declared.progress.Progress.{Progress}
 use Rattle.pf_smtp.specs.declared.state.Setup.{Setup}
 
 -- a session that has taken nothing
-pub took_none : (told : Sinks) (setup : Setup) → Took told told (fresh setup) (fresh setup) []
+pub took_none : (known : Sinks) (setup : Setup) → Took known known (fresh setup) (fresh setup) []
 unfolding steps lines
-took_none told setup = record {
-  sinks = sym (appended_none told);
+took_none known setup = record {
+  sinks = sym (appended_none known);
   setup = refl;
   state = refl;
   partial = λ going. refl;
 }
 
 -- a session that has ended takes any bytes and says nothing
-pub took_ended : (told : Sinks) (s : Progress) (ys : List ℕ) → s.state.ended ≡ true → Took told told s s ys
-took_ended told s ys ended = record {
-  sinks = sym (appended_none told) ∙ ap (λ g. appended told (texts_of s.setup g)) (sym (given_ended s ys ended));
+pub took_ended : (known : Sinks) (s : Progress) (ys : List ℕ) → s.state.ended ≡ true → Took known known s s ys
+took_ended known s ys ended = record {
+  sinks = sym (appended_none known) ∙ ap (λ g. appended known (texts_of s.setup g)) (sym (given_ended s ys ended));
   setup = refl;
   state = ap (λ g. g.next) (sym (given_ended s ys ended));
   partial = λ going. absurd (false≢true (sym going ∙ ended));

@@ -1,7 +1,7 @@
 //! The session, as the layer above drives it.
 ghost use Rattle.std.specs.Prelude.{◌≡◌, [], true, false, Ok, IfErr, IfOk, OnErr, OnOk};
 ghost use Rattle.pf_base.specs.Outside.Objects.{Says, StopsBy, out_text, sinks};
-ghost use Rattle.pf_base.specs.Outside.Told.{Output};
+ghost use Rattle.pf_base.specs.Outside.Known.{Output};
 ghost use Rattle.pf_smtp.specs.Clauses.Feeding.{Took, fresh, going_of, texts_given};
 ghost use Rattle.pf_smtp.specs.Text.{greeting_of};
 
@@ -42,11 +42,11 @@ impl Progress {
         mail: &mut M,
         log: &mut J,
     ) -> Result<(), SinkFault>
-        ensures took { OnOk result (Took (sinks (O.told out.old) (M.told mail.old) (J.told log.old))
-            (sinks (O.told out.new) (M.told mail.new) (J.told log.new)) self.old self.new piece.now) }
-        ensures stops { IfErr result (λ fault. StopsBy fault (sinks (O.told out.old) (M.told mail.old) (J.told log.old))
-            (sinks (O.told out.new) (M.told mail.new) (J.told log.new)) (texts_given self.old piece.now)) }
-        ensures mail { M.told mail.new ≡ M.told mail.old }
+        ensures took { OnOk result (Took (sinks (O.known out.old) (M.known mail.old) (J.known log.old))
+            (sinks (O.known out.new) (M.known mail.new) (J.known log.new)) self.old self.new piece.now) }
+        ensures stops { IfErr result (λ fault. StopsBy fault (sinks (O.known out.old) (M.known mail.old) (J.known log.old))
+            (sinks (O.known out.new) (M.known mail.new) (J.known log.new)) (texts_given self.old piece.now)) }
+        ensures mail { M.known mail.new ≡ M.known mail.old }
     {
         clear(texts);
         let Ok(()) = self.take_piece(alloc, piece, texts) else {
@@ -56,7 +56,7 @@ impl Progress {
     }
 
     fn greet<O: Sink>(&self, alloc: Global, out: &mut O) -> Result<(), SinkFault>
-        ensures { (mail log : Output) → Says (sinks (O.told out.old) mail log) (sinks (O.told out.new) mail log)
+        ensures { (mail log : Output) → Says (sinks (O.known out.old) mail log) (sinks (O.known out.new) mail log)
             (out_text (greeting_of self.now.setup.banner)) result }
     {
         let mut text = Bytes::new(alloc);
@@ -120,7 +120,7 @@ impl Session {
     /// a fault a prefix of it was written, and the session has ended.
     pub fn greet<O: Sink>(&mut self, alloc: Global, out: &mut O) -> Result<(), SinkFault>
         requires { self.old.begun ≡ false }
-        ensures says { (mail log : Output) → Says (sinks (O.told out.old) mail log) (sinks (O.told out.new) mail log)
+        ensures says { (mail log : Output) → Says (sinks (O.known out.old) mail log) (sinks (O.known out.new) mail log)
             (out_text (greeting_of self.old.progress.setup.banner)) result }
         ensures begun { self.new.begun ≡ true }
         ensures same { OnOk result (self.new.progress ≡ self.old.progress) }
@@ -149,11 +149,11 @@ impl Session {
         log: &mut J,
     ) -> Result<Going, SinkFault>
         requires { self.old.begun ≡ true }
-        ensures took { OnOk result (Took (sinks (O.told out.old) (M.told mail.old) (J.told log.old))
-            (sinks (O.told out.new) (M.told mail.new) (J.told log.new)) self.old.progress self.new.progress piece.now) }
-        ensures stops { IfErr result (λ fault. StopsBy fault (sinks (O.told out.old) (M.told mail.old) (J.told log.old))
-            (sinks (O.told out.new) (M.told mail.new) (J.told log.new)) (texts_given self.old.progress piece.now)) }
-        ensures mail { M.told mail.new ≡ M.told mail.old }
+        ensures took { OnOk result (Took (sinks (O.known out.old) (M.known mail.old) (J.known log.old))
+            (sinks (O.known out.new) (M.known mail.new) (J.known log.new)) self.old.progress self.new.progress piece.now) }
+        ensures stops { IfErr result (λ fault. StopsBy fault (sinks (O.known out.old) (M.known mail.old) (J.known log.old))
+            (sinks (O.known out.new) (M.known mail.new) (J.known log.new)) (texts_given self.old.progress piece.now)) }
+        ensures mail { M.known mail.new ≡ M.known mail.old }
         ensures begun { self.new.begun ≡ true }
         ensures going { IfOk result (λ going. going ≡ going_of self.new.progress.state) }
         ensures ended { OnErr result (self.new.progress.state.ended ≡ true) }

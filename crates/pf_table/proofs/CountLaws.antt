@@ -83,7 +83,7 @@ last_value (pair ∷ pairs) other key = by (bytes_eq other.key pair.key) (bytes_
     by false false true st tt ut behind = rw tt behind
     by false false false st tt ut behind = rw tt behind
 
--- a pair that stands behind the one of its key
+-- a pair that is after the one of its key
 first_value : (pairs : List Pair) (other : Pair) (key : List ℕ) → value_in (with_pair First pairs other) key ≡ value_in (pairs ++ other ∷ []) key
 first_value [] other key = refl
 first_value (pair ∷ pairs) other key = by (bytes_eq other.key pair.key) (bytes_eq key pair.key) refl refl (first_value pairs other key)

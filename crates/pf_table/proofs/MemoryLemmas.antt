@@ -18,15 +18,15 @@ use Rattle.pf_table.specs.Clauses.Memory.{CountsCall, MemoryTables, meaning_in, 
 
 -- a lookup that fails
 pub failed_lookup : (old : MemoryTables) (id : ℕ) (key : List ℕ) → Answered look_failed (seen old).held.content (value_of id key) (Err Failed)
-failed_lookup old id key = record { heard = Some (Err Failed); only = λ told e. refl; is = λ told tells. refl }
+failed_lookup old id key = record { heard = Some (Err Failed); only = λ known e. refl; is = λ known knows. refl }
 
 -- and one that is answered
 answered : (old : MemoryTables) (id : ℕ) (key : List ℕ) (result : Looked) → result ≡ answer_of (meaning_in (slice_get old.tables id)) key
     → Answered look_failed (seen old).held.content (value_of id key) result
 answered old id key result is = record {
   heard = None;
-  only = λ told e. refl;
-  is = λ told tells. is ∙ ap (λ values. value_of id key values) tells;
+  only = λ known e. refl;
+  is = λ known knows. is ∙ ap (λ values. value_of id key values) knows;
 }
 
 pub answered_lookup : (old : MemoryTables) (id : ℕ) (key : List ℕ) (result : Looked)
@@ -63,15 +63,15 @@ answered_is old new id key result counts is =
 
 -- results that fail
 pub failed_listing : (old : MemoryTables) (id : ℕ) → Answered listing_failed (seen old).held.content (results_of id) (Err Failed)
-failed_listing old id = record { heard = Some (Err Failed); only = λ told e. refl; is = λ told tells. refl }
+failed_listing old id = record { heard = Some (Err Failed); only = λ known e. refl; is = λ known knows. refl }
 
 -- and such as are answered
 listing : (old : MemoryTables) (id : ℕ) (result : Listing) → result ≡ Ok ((meaning_in (slice_get old.tables id)).results)
     → Answered listing_failed (seen old).held.content (results_of id) result
 listing old id result is = record {
   heard = None;
-  only = λ told e. refl;
-  is = λ told tells. is ∙ ap (λ values. results_of id values) tells;
+  only = λ known e. refl;
+  is = λ known knows. is ∙ ap (λ values. results_of id values) knows;
 }
 
 pub answered_listing : (old : MemoryTables) (id : ℕ) (result : Listing) → Unless result NoMemory (λ r. r ≡ Ok ((meaning_in (slice_get old.tables id)).results))
@@ -117,16 +117,16 @@ meaning_partial : (pairs : Option (List Pair)) → true ≡ (meaning_in pairs).p
 meaning_partial None = refl
 meaning_partial (Some pairs) = refl
 
-pub told_partial : (old : MemoryTables) (id : ℕ) (values : Values) → (seen old).held.content ≡ Some values → true ≡ (values id).partial_keys
-told_partial old id values tells = let e : values_of old.tables ≡ values = cc in
+pub known_partial : (old : MemoryTables) (id : ℕ) (values : Values) → (seen old).held.content ≡ Some values → true ≡ (values id).partial_keys
+known_partial old id values knows = let e : values_of old.tables ≡ values = cc in
     meaning_partial (slice_get old.tables id) ∙ ap (λ (vs : Values). (vs id).partial_keys) e
 
 meaning_has_all : (pairs : Option (List Pair)) → HasAll (meaning_in pairs)
 meaning_has_all None = fail_has_all
 meaning_has_all (Some pairs) = keyed_has_all (record { folds = false; pairs = pairs })
 
-pub told_has_all : (old : MemoryTables) (id : ℕ) (values : Values) → (seen old).held.content ≡ Some values → HasAll (values id)
-told_has_all old id values tells = let e : values_of old.tables ≡ values = cc in
+pub known_has_all : (old : MemoryTables) (id : ℕ) (values : Values) → (seen old).held.content ≡ Some values → HasAll (values id)
+known_has_all old id values knows = let e : values_of old.tables ≡ values = cc in
     subst (λ (vs : Values). HasAll (vs id)) e (meaning_has_all (slice_get old.tables id))
 
 -- tables of all these places are there

@@ -18,7 +18,7 @@ pub there : {A : Type 0} (answer : Result A Refused) (x : A) → Ok x ≡ as_fau
 there (Ok y) x is = cc
 there (Err refusal) x is = cc
 
--- a fault stays one behind the first step
+-- a fault stays one after the first step
 pub stays_fault : {A B : Type 0} (answer : Result A Refused) (f : A → Result B Refused) (fault : ConfFault) → Err fault ≡ as_fault answer → Err fault ≡ as_fault (answer >>= f)
 stays_fault (Ok x) f fault is = cc
 stays_fault (Err refusal) f fault is = cc

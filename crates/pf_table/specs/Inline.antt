@@ -1,4 +1,4 @@
--- Tables that stand in their specification (DATABASE_README, inline). That an item without braces has no space in it, and that of repeated
+-- Tables that are in their specification (DATABASE_README, inline). That an item without braces has no space in it, and that of repeated
 -- keys the first counts, is postgate's own.
 use Rattle.std.specs.Prelude.{◌≡◌, ℕ, ◌+◌, ◌++◌, ◌==◌, Bool, nat_lt, List, [], ◌∷◌, Option, None, Some, Result, Ok, Err, codes, length, take, drop, if◌then◌else◌}
 use Rattle.std.specs.List.{list_any, position}
@@ -15,11 +15,11 @@ use Rattle.pf_table.specs.Pairs.{pairs_of}
 use Rattle.pf_table.specs.Tables.{Keyed, found_in, kept_key}
 use Rattle.pf_table.specs.declared.pairs.Repeats.TheVariants.{First}
 
--- a text up to its end, the partner of the brace in front of it
+-- a text up to its end, the partner of the brace before it
 abbrev pub unless_behind : List ℕ → ℕ → Option (List ℕ)
 unless_behind text place = if place + 1 == length text then Some (take place text) else None
 
--- what stands in the brace that was opened in front of a text, where nothing stands behind its partner
+-- what is in the brace that was opened before a text, where nothing is after its partner
 abbrev pub in_brace : List ℕ → Option (List ℕ)
 in_brace text = partner 0 text >>= unless_behind text
 

@@ -15,7 +15,7 @@ abbrev pub counting : Repeats → Pair → Pair → Pair
 counting First pair other = pair
 counting Last pair other = record pair { value = other.value }
 
--- pairs with one more: behind them where its key is new, else in the place of the pair of its key
+-- pairs with one more: after them where its key is new, else in the place of the pair of its key
 abbrev pub with_pair : Repeats → List Pair → Pair → List Pair
 with_pair repeats [] other = other ∷ []
 with_pair repeats (pair ∷ pairs) other =

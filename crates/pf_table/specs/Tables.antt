@@ -26,7 +26,7 @@ found_as (Some pair) = Value pair.value
 abbrev pub found_in : List Pair → List ℕ → Found
 found_in pairs key = found_as (find (λ pair. bytes_eq key pair.key) pairs)
 
--- a key as a table keeps it, with small letters or as it stands
+-- a key as a table keeps it, with small letters or as it is
 abbrev pub kept_key : Bool → List ℕ → List ℕ
 kept_key folds key = if folds then folded key else key
 

@@ -1,4 +1,4 @@
-//! Tables that stand in their specification (DATABASE_README, inline).
+//! Tables that are in their specification (DATABASE_README, inline).
 ghost use Rattle.std.specs.Prelude.{◌≡◌, ◌≢◌, ◌==◌, ◌++◌, IfOk};
 ghost use Rattle.std.specs.List.{list_any, position};
 ghost use Rattle.std.specs.Option.{option_copied};
@@ -33,8 +33,8 @@ fn has_space(text: &[u8]) -> bool
     text.iter().any(|b| is_space(*b))
 }
 
-/// What stands in the brace that was opened in front of a text, up to its partner (DATABASE_README); None where there is none, or
-/// where something stands behind it.
+/// What is in the brace that was opened before a text, up to its partner (DATABASE_README); None where there is none, or
+/// where something is after it.
 pub fn in_brace(text: &[u8]) -> Option<&[u8]>
     ensures { option_copied result ≡ spec.in_brace text.now }
 {
@@ -68,7 +68,7 @@ fn item_text(item: &[u8]) -> Option<&[u8]>
     }
 }
 
-// A text parted at its first equals sign; None where there is none, or nothing in front of it.
+// A text parted at its first equals sign; None where there is none, or nothing before it.
 fn pair_of(alloc: Global, folds: bool, text: &[u8]) -> Result<Option<Pair>, NoMemory>
     ensures { IfOk result (λ pair. pair ≡ spec.pair_of folds text.now) }
 {
@@ -132,7 +132,7 @@ fn text_refused(alloc: Global, file: &[u8], line: u64, text: &[u8]) -> ConfFault
     }
 }
 
-/// A table whose pairs stand in its specification (DATABASE_README, inline).
+/// A table whose pairs are in its specification (DATABASE_README, inline).
 #[derive(Drop)]
 pub struct Inline {
     folds: bool,

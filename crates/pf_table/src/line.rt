@@ -29,7 +29,7 @@ impl Reason {
     }
 }
 
-// Whether a byte ends a quoted text; taken says that a backslash stands in front of it.
+// Whether a byte ends a quoted text; taken says that a backslash is before it.
 fn is_closing(taken: bool, b: u8) -> bool
     ensures { result ≡ (not taken && b == ascii.double_quote) }
 {
@@ -43,7 +43,7 @@ fn takes_next(taken: bool, b: u8) -> bool
     !taken && b == b'\\'
 }
 
-// The place of the quote that closes the text whose first quote stands in front.
+// The place of the quote that closes the text whose first quote is in prefix.
 fn closing_quote(text: &[u8]) -> Option<usize>
     ensures within { IfSome result (λ n. n < length text.now) }
     ensures place { result ≡ spec.closing_quote false text.now }
@@ -58,7 +58,7 @@ fn closing_quote(text: &[u8]) -> Option<usize>
     None
 }
 
-// What stands between quotes, without its backslashes.
+// What is between quotes, without its backslashes.
 fn unquoted(alloc: Global, content: &[u8]) -> Result<Bytes, NoMemory>
     ensures { IfOk result (λ bytes. bytes ≡ spec.unquoted false content.now) }
 {
@@ -73,7 +73,7 @@ fn unquoted(alloc: Global, content: &[u8]) -> Result<Bytes, NoMemory>
     Ok(bytes)
 }
 
-// What stands behind the quote that a line begins with; None where it begins with another byte.
+// What is after the quote that a line begins with; None where it begins with another byte.
 fn behind_quote(text: &[u8]) -> Option<&[u8]>
     ensures { option_copied result ≡ spec.behind_quote text.now }
 {
@@ -83,7 +83,7 @@ fn behind_quote(text: &[u8]) -> Option<&[u8]>
     }
 }
 
-// Where the first space stands, or the length where there is none.
+// Where the first space is, or the length where there is none.
 fn key_end(text: &[u8]) -> usize
     ensures within { result ≤ length text.now }
     ensures place { result ≡ position_or_len space.is_space text.now }
@@ -97,11 +97,11 @@ fn key_end(text: &[u8]) -> usize
 }
 
 // The pair of a line whose key begins with this, and goes on in what is left of the line.
-fn pair_behind(alloc: Global, folds: bool, front: &[u8], text: &[u8]) -> Result<Pair, NoMemory>
-    ensures { IfOk result (λ pair. pair ≡ spec.pair_behind folds front.now text.now) }
+fn pair_behind(alloc: Global, folds: bool, prefix: &[u8], text: &[u8]) -> Result<Pair, NoMemory>
+    ensures { IfOk result (λ pair. pair ≡ spec.pair_behind folds prefix.now text.now) }
 {
     let end = key_end(text);
-    let mut key = Bytes::from_slice(alloc, front)?;
+    let mut key = Bytes::from_slice(alloc, prefix)?;
     key.extend(&text[..end])?;
     Ok(Pair {
         key: kept_key(alloc, folds, key.as_slice())?,
@@ -109,15 +109,15 @@ fn pair_behind(alloc: Global, folds: bool, front: &[u8], text: &[u8]) -> Result<
     })
 }
 
-// The pair of a line that begins with a quote, by what stands behind that; None where the quote isn't closed.
+// The pair of a line that begins with a quote, by what is after that; None where the quote isn't closed.
 fn quoted_pair(alloc: Global, folds: bool, text: &[u8]) -> Result<Option<Pair>, NoMemory>
     ensures { IfOk result (λ pair. pair ≡ spec.quoted_pair folds text.now) }
 {
     match closing_quote(text) {
         None => Ok(None),
         Some(place) => {
-            let front = unquoted(alloc, &text[..place])?;
-            let pair = pair_behind(alloc, folds, front.as_slice(), &text[place + 1..])?;
+            let prefix = unquoted(alloc, &text[..place])?;
+            let pair = pair_behind(alloc, folds, prefix.as_slice(), &text[place + 1..])?;
             Ok(Some(pair))
         }
     }

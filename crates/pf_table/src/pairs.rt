@@ -12,7 +12,7 @@ use pf_base::{Bytes, List, NoMemory, Pair, fold};
 use std::alloc::Global;
 use std::marker::Model;
 
-/// Which pair counts of a key that comes more than once. It stands in the place of the first one.
+/// Which pair counts of a key that comes more than once. It is in the place of the first one.
 #[derive(Clone, Copy, Debug, PartialEq, Eq)]
 pub enum Repeats {
     First,

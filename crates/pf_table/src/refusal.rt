@@ -22,7 +22,7 @@ fn refusal(
     })
 }
 
-/// The refusal of a table, with the file and the line, from 1, where it stands or is named, its cause and what it names, or want
+/// The refusal of a table, with the file and the line, from 1, where it is or is named, its cause and what it names, or want
 /// of memory.
 pub fn refused(alloc: Global, file: &[u8], line: u64, cause: Cause, name: &[u8]) -> ConfFault
     ensures { result ≢ ConfFault.NoMemory → result ≡ ConfFault.Refused (spec.refused file.now line cause name.now) }

@@ -16,7 +16,7 @@ use pf_base::{Bytes, Cause, ConfFault, List, Logical, NoMemory, Pair, TextFault,
 use std::alloc::Global;
 use std::marker::Model;
 
-/// A logical line whose key stands in an earlier one: the number of its first physical line, from 1, and its key as it is
+/// A logical line whose key is in an earlier one: the number of its first physical line, from 1, and its key as it is
 /// compared.
 #[derive(Debug, PartialEq, Eq, Drop)]
 pub struct Repeated {
@@ -113,7 +113,7 @@ impl Model for TextTable {
     ghost view = { λ table. record { folds = table.folds; pairs = table.pairs } };
 }
 
-/// A text table that was read, and its lines whose keys stand in earlier ones, in order.
+/// A text table that was read, and its lines whose keys are in earlier ones, in order.
 #[derive(Drop)]
 pub struct TextRead {
     pub table: TextTable,

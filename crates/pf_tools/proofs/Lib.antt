@@ -1,6 +1,6 @@
 pub mod LineLaws
 pub mod OrderLaws
-pub mod PresetLaws
+pub mod DefaultLaws
 pub mod ReportLaws
 pub mod Rows
 pub mod RunLaws

@@ -7,7 +7,7 @@ use Rattle.pf_maincf.specs.Settings.{Conf}
 use Rattle.pf_tools.specs.Printed.{line_of, lines_of}
 use Rattle.pf_words.specs.declared.postconf.ConfWords.{ConfWords}
 
--- behind a line that is there
+-- after a line that is there
 pub line_more : (words : ConfWords) (s : Conf) (names : List (List ℕ)) (i : ℕ) (name line lines : List ℕ)
     → i < length names → name ≡ get_or names i name → line_of words s name ≡ Ok line
     → (lines_of words s (drop (i + 1) names) >>= (λ behind. Ok ((lines ++ line) ++ behind))) ≡ (lines_of words s (drop i names) >>= (λ behind. Ok (lines ++ behind)))

@@ -4,7 +4,7 @@ use Rattle.std.specs.Option.{option_map}
 use Rattle.std.specs.Prelude.{◌⊎◌, OnErr}
 use Rattle.pf_base.specs.Outside.Counts.{counted}
 use Rattle.pf_base.specs.Outside.FileList.{with_file}
-use Rattle.pf_base.specs.Outside.Told.{Tree, failed_tree, replaced}
+use Rattle.pf_base.specs.Outside.Known.{Tree, failed_tree, replaced}
 use Rattle.pf_base.specs.declared.pair.Pair.{Pair}
 use Rattle.pf_base.specs.declared.refused.Refused.{Refused}
 use Rattle.pf_maincf.specs.Clauses.Faults.{Answers}
@@ -19,18 +19,18 @@ use Rattle.pf_tools.specs.declared.said.Said.{Said}
 use Rattle.pf_tools.specs.declared.said.Said.TheVariants as said
 use Rattle.pf_words.specs.declared.postconf.ConfWords.{ConfWords}
 
--- the code's answer, where the files tell
-abbrev pub Told : ConfWords → Tree → Result Said FileFault → Type 0
-Told words before answer = (files : List Pair) → before.content ≡ Some files → Answers (said_in words files) answer
+-- the code's answer, where the files are known
+abbrev pub Known : ConfWords → Tree → Result Said FileFault → Type 0
+Known words before answer = (files : List Pair) → before.content ≡ Some files → Answers (said_in words files) answer
 
 module _ (words : ConfWords) (before now : Tree) where
-  pub prints_report : (lines warnings : List ℕ) (report : Report) → Told words before (Ok (said.Printed lines warnings)) → Kept before now
+  pub prints_report : (lines warnings : List ℕ) (report : Report) → Known words before (Ok (said.Printed lines warnings)) → Kept before now
       → report ≡ report_of (conf_name words.folder) (course.prints lines warnings) → Reports words before now report
-  prints_report lines warnings report told same is = record { courses = record { course = course.prints lines warnings; is = told; leaves = same }; report_is = is }
+  prints_report lines warnings report known same is = record { courses = record { course = course.prints lines warnings; is = known; leaves = same }; report_is = is }
 
-  pub refuses_report : (refusal : Refused) (report : Report) → Told words before (Err (file_fault.Refused refusal)) → Kept before now
+  pub refuses_report : (refusal : Refused) (report : Report) → Known words before (Err (file_fault.Refused refusal)) → Kept before now
       → report ≡ report_of (conf_name words.folder) (course.refuses refusal) → Reports words before now report
-  refuses_report refusal report told same is = record { courses = record { course = course.refuses refusal; is = told; leaves = same }; report_is = is }
+  refuses_report refusal report known same is = record { courses = record { course = course.refuses refusal; is = known; leaves = same }; report_is = is }
 
   pub unread_report : (report : Report) → Kept (failed_tree before) now → report ≡ report_of (conf_name words.folder) course.unread → Reports words before now report
   unread_report report same is = record { courses = record { course = course.unread; is = tt; leaves = same }; report_is = is }
@@ -56,7 +56,7 @@ kept_replaced name bytes x y kept = (ap (λ c. option_map (λ files. with_file f
 kept_failed : (x y : Tree) → Kept x y → Kept (failed_tree x) (failed_tree y)
 kept_failed x y kept = (kept.0, ap counted kept.1)
 
-module _ (words : ConfWords) (before mid now : Tree) (text : List ℕ) (read : Kept before mid) (told : Told words before (Ok (said.Edited text))) where
+module _ (words : ConfWords) (before mid now : Tree) (text : List ℕ) (read : Kept before mid) (known : Known words before (Ok (said.Edited text))) where
   abbrev name : List ℕ
   name = conf_name words.folder
 
@@ -70,10 +70,10 @@ module _ (words : ConfWords) (before mid now : Tree) (text : List ℕ) (read : K
 
   pub edit_report : (report : Report) → IsEditReport name text mid now report → Reports words before now report
   edit_report report (inl done) =
-      record { courses = record { course = course.edits text; is = told; leaves = over_kept before mid now read (replaced name text) (kept_replaced name text) done.1 }; report_is = done.0 }
-  edit_report report (inr refused) = record { courses = record { course = course.unreplaced text; is = told; leaves = replaced_behind refused.1 }; report_is = refused.0 }
+      record { courses = record { course = course.edits text; is = known; leaves = over_kept before mid now read (replaced name text) (kept_replaced name text) done.1 }; report_is = done.0 }
+  edit_report report (inr refused) = record { courses = record { course = course.unreplaced text; is = known; leaves = replaced_behind refused.1 }; report_is = refused.0 }
 
-  -- and the course where memory was wanting
+  -- and the course where it was out of memory
   pub edit_short : Leaves name (course.unreplaced text) mid now ⊎ Leaves name (course.starves_editing text) mid now → Unfinished words before now
-  edit_short (inl left) = record { courses = record { course = course.unreplaced text; is = told; leaves = replaced_behind left }; undone = refl }
-  edit_short (inr left) = record { courses = record { course = course.starves_editing text; is = told; leaves = starved_behind left }; undone = refl }
+  edit_short (inl left) = record { courses = record { course = course.unreplaced text; is = known; leaves = replaced_behind left }; undone = refl }
+  edit_short (inr left) = record { courses = record { course = course.starves_editing text; is = known; leaves = starved_behind left }; undone = refl }

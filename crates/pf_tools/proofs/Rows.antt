@@ -29,7 +29,7 @@ use Rattle.pf_words.specs.declared.postconf.ConfMode.TheVariants as mode
 use Rattle.pf_words.specs.declared.postconf.ConfWords.{ConfWords}
 use Rattle.pf_words.specs.declared.postconf.Shape.TheVariants as shape
 
--- what the examples share: words, and settings of a main.cf with one behind them
+-- what the examples share: words, and settings of a main.cf with one after them
 abbrev words : ConfWords
 words = record { mode = mode.All; expanded = false; shape = shape.Both; folder = None; over = None; rest = [] }
 
@@ -73,7 +73,7 @@ number_of_names = refl
 names_of_the_words : asked_names (record words { rest = codes "b" ∷ codes "a" ∷ codes "b" ∷ [] }) site ≡ codes "b" ∷ codes "a" ∷ codes "b" ∷ []
 names_of_the_words = refl
 
--- values: as they stand, by default, and expanded
+-- values: as they are, by default, and expanded
 values_as_they_stand : map (value_shown words site) (codes "town" ∷ codes "site" ∷ codes "myorigin" ∷ codes "mydomain" ∷ [])
     ≡ Ok (codes "There") ∷ Ok (codes "$mydomain in $town") ∷ Ok (codes "$myhostname") ∷ Ok (codes "example.com") ∷ []
 unfolding catalogue name_value text_value parts first_part form_of

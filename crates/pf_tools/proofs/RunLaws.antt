@@ -3,10 +3,10 @@ use Rattle.std.proofs.Common.{◌≡◌, ℕ, true, false, [], Result, Err, refl
 use Rattle.std.specs.Prelude.{IsOk, ⊤}
 use Rattle.std.proofs.lemmas.Bool.{false≢true}
 use Rattle.pf_base.proofs.StatusLemmas.{said_causes, starved_causes}
-use Rattle.pf_base.proofs.ToldLemmas.{stops_first}
+use Rattle.pf_base.proofs.KnownLemmas.{stops_first}
 use Rattle.pf_base.specs.Outside.Objects.{Says, objects, sinks, status_of}
 use Rattle.pf_base.specs.Outside.Statuses.{HasCauses, counts_of, is_among}
-use Rattle.pf_base.specs.Outside.Told.{Input, Output, Tree}
+use Rattle.pf_base.specs.Outside.Known.{Input, Output, Tree}
 use Rattle.pf_base.specs.declared.outside.status.TheConstants.{NO_MEMORY}
 use Rattle.pf_base.specs.declared.outside.texts.SinkFault.{SinkFault}
 use Rattle.pf_base.specs.declared.outside.texts.SinkFault.TheVariants as fault
@@ -61,10 +61,10 @@ module _ (words : ConfWords) (before now : Tree) (input : Input) (mail out log :
         rest = (refl, refl);
         known = subst (λ s. is_among statuses s ≡ true) (sym is) (status_known file course (sinks out mail log) (sinks out_now mail log_now) said spoke);
         causes = causes;
-        complete = λ files told none. completes words before.content (counts_of old) (counts_of new) status causes course reports.courses.is said is files told none;
+        complete = λ files known none. completes words before.content (counts_of old) (counts_of new) status causes course reports.courses.is said is files known none;
       }
 
-  -- memory was wanting before there was anything to write
+  -- it was out of memory before there was anything to write
   pub runs_short : Unfinished words before now → (is_edit words.mode ≡ false → now.content ≡ before.content)
       → PostconfRun words (objects input out mail log before) (objects input out mail log now) NO_MEMORY
   runs_short left same = record {
@@ -79,5 +79,5 @@ module _ (words : ConfWords) (before now : Tree) (input : Input) (mail out log :
     rest = (refl, refl);
     known = refl;
     causes = starved_causes _ _ refl refl refl refl (files_cause (conf_name words.folder) left.courses.course before now left.courses.leaves).once;
-    complete = λ files told none. memory_is_free (said_in words files);
+    complete = λ files known none. memory_is_free (said_in words files);
   }

@@ -4,7 +4,7 @@ use Rattle.std.specs.Prelude.{⊤}
 use Rattle.pf_base.proofs.StatusLemmas.{FilesCause, none_stopped, spoken}
 use Rattle.pf_base.specs.Outside.Objects.{Says, Sinks, status_of}
 use Rattle.pf_base.specs.Outside.Statuses.{Counts, HasCauses, NoneRose, is_among}
-use Rattle.pf_base.specs.Outside.Told.{Tree}
+use Rattle.pf_base.specs.Outside.Known.{Tree}
 use Rattle.pf_base.specs.declared.pair.Pair.{Pair}
 use Rattle.pf_base.specs.declared.refused.Refused.{Refused}
 use Rattle.pf_base.specs.declared.outside.status.TheConstants.{DONE, FILES_FAILED, NO_MEMORY, WARNED}
@@ -72,12 +72,12 @@ memory_is_free (Err refusal) = refl
 module _ (words : ConfWords) (content : Option (List Pair)) (before now : Counts) (status : ℕ) (causes : HasCauses before now status) where
   pub completes : (c : Course) → IsCourse words content c → (last : Result ⊤ SinkFault) → status ≡ status_of (course_status c) last
       → (files : List Pair) → content ≡ Some files → NoneRose before now → is_among (statuses_by (said_in words files)) status ≡ true
-  completes c is (Err why) status_is files told none = rw (none_stopped why status_is causes none) (memory_is_free (said_in words files))
-  completes (course.prints lines warnings) is (Ok x) status_is files told none =
-      rw (status_is, is files told) (by_warnings (λ s. is_among (s ∷ NO_MEMORY ∷ []) s ≡ true) refl refl warnings)
-  completes (course.edits text) is (Ok x) status_is files told none = rw (status_is, is files told) refl
-  completes (course.refuses refusal) is (Ok x) status_is files told none = rw (status_is, is files told) refl
-  completes course.unread is (Ok x) status_is files told none = absurd (none.files (causes.files status_is))
-  completes (course.unreplaced text) is (Ok x) status_is files told none = absurd (none.files (causes.files status_is))
-  completes course.starves is (Ok x) status_is files told none = rw status_is (memory_is_free (said_in words files))
-  completes (course.starves_editing text) is (Ok x) status_is files told none = rw status_is (memory_is_free (said_in words files))
+  completes c is (Err why) status_is files known none = rw (none_stopped why status_is causes none) (memory_is_free (said_in words files))
+  completes (course.prints lines warnings) is (Ok x) status_is files known none =
+      rw (status_is, is files known) (by_warnings (λ s. is_among (s ∷ NO_MEMORY ∷ []) s ≡ true) refl refl warnings)
+  completes (course.edits text) is (Ok x) status_is files known none = rw (status_is, is files known) refl
+  completes (course.refuses refusal) is (Ok x) status_is files known none = rw (status_is, is files known) refl
+  completes course.unread is (Ok x) status_is files known none = absurd (none.files (causes.files status_is))
+  completes (course.unreplaced text) is (Ok x) status_is files known none = absurd (none.files (causes.files status_is))
+  completes course.starves is (Ok x) status_is files known none = rw status_is (memory_is_free (said_in words files))
+  completes (course.starves_editing text) is (Ok x) status_is files known none = rw status_is (memory_is_free (said_in words files))

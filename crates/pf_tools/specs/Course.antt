@@ -1,7 +1,7 @@
 -- The course that a run of postconf can take, what is written in it, and what it leaves of the files (postconf(1)). The statuses are postgate's own.
 use Rattle.std.specs.Prelude.{◌≡◌, ◌⊎◌, ℕ, Bool, true, false, List, [], ◌∷◌, Option, Some, Result, Ok, Err, codes}
 use Rattle.pf_base.specs.Refusal.{refusal_line}
-use Rattle.pf_base.specs.Outside.Told.{Tree, failed_tree, replaced}
+use Rattle.pf_base.specs.Outside.Known.{Tree, failed_tree, replaced}
 use Rattle.pf_base.specs.declared.pair.Pair.{Pair}
 use Rattle.pf_base.specs.declared.refused.Refused.{Refused}
 use Rattle.pf_base.specs.declared.outside.status.TheConstants.{DONE, FILES_FAILED, NO_MEMORY, REFUSED, WARNED}
@@ -12,12 +12,12 @@ use Rattle.pf_tools.specs.declared.said.Said.{Said}
 use Rattle.pf_tools.specs.declared.said.Said.TheVariants as said
 use Rattle.pf_words.specs.declared.postconf.ConfWords.{ConfWords}
 
--- what is said of main.cf, where the files tell
+-- what is said of main.cf, where the files are known
 abbrev pub said_in : ConfWords → List Pair → Result Said Refused
 said_in words files = file_said (conf_name words.folder) words (bytes_in files (conf_name words.folder))
 
 -- a run prints lines and warnings, puts an edited text in the place of the file, or says why the file is refused; or the file can't be read, or
--- the edited text can't be put in its place; or memory is wanting before there is a text to write, and in an edit perhaps after that
+-- the edited text can't be put in its place; or it is out of memory before there is a text to write, and in an edit perhaps after that
 pub data Course : Type 0 where
   prints : List ℕ → List ℕ → Course
   edits : List ℕ → Course
@@ -27,7 +27,7 @@ pub data Course : Type 0 where
   starves : Course
   starves_editing : List ℕ → Course
 
--- where the files tell, this is what is said of main.cf
+-- where the files are known, this is what is said of main.cf
 abbrev pub IsSaid : ConfWords → Option (List Pair) → Result Said Refused → Type 0
 IsSaid words content answer = (files : List Pair) → content ≡ Some files → said_in words files ≡ answer
 
@@ -76,7 +76,7 @@ course_status starves = NO_MEMORY
 course_status (starves_editing text) = NO_MEMORY
 
 -- what a course leaves of the files, and why it is taken: a call on them failed just once where the file can't be read or the text can't be put in its
--- place, and else none; where it could not be put there it may stand there all the same
+-- place, and else none; where it could not be put there it may be there all the same
 abbrev pub Leaves : List ℕ → Course → Tree → Tree → Type 0
 Leaves file (prints lines warnings) before now = Kept before now
 Leaves file (edits text) before now = Kept (replaced file text before) now
@@ -92,12 +92,12 @@ pub record Courses (words : ConfWords) (before now : Tree) : Type 0 where
   pub is : IsCourse words before.content course
   pub leaves : Leaves (conf_name words.folder) course before now
 
--- an edited text stands in the place of the file
+-- an edited text is in the place of the file
 abbrev pub is_done : Course → Bool
 is_done (edits text) = true
 is_done other = false
 
--- a course that did not come to its end: the text of an edit does not stand in the place of the file, or may not
+-- a course that did not come to its end: the text of an edit is not in the place of the file, or may not
 pub record Unfinished (words : ConfWords) (before now : Tree) : Type 0 where
   pub courses : Courses words before now
   pub undone : is_done courses.course ≡ false

@@ -17,7 +17,7 @@ abbrev pub behind_sign : List ℕ → List ℕ
 behind_sign [] = []
 behind_sign (b ∷ bytes) = ascii.space ∷ b ∷ bytes
 
--- what stands in a line: name and value, the value alone, or the name alone; an empty value has no blank before it
+-- what is in a line: name and value, the value alone, or the name alone; an empty value has no blank before it
 abbrev pub line_text : Shape → List ℕ → List ℕ → List ℕ
 line_text shape.Both name value = name ++ codes " =" ++ behind_sign value
 line_text shape.Values name value = value

@@ -23,8 +23,8 @@ statuses_by (Ok (said.Printed lines warnings)) = printed_status warnings ∷ NO_
 statuses_by (Ok (said.Edited text)) = DONE ∷ NO_MEMORY ∷ []
 statuses_by (Err refusal) = REFUSED ∷ NO_MEMORY ∷ []
 
--- words of postconf: the run took a course over the files, and wrote what that has to say, or a sink's fault or want of memory broke the writing
--- off; an edit that stands in the place of the file says nothing. The status is that of the course, or of what broke the writing off
+-- words of postconf: the run took a course over the files, and wrote what that has to say, or a sink's fault or lack of memory broke the writing
+-- off; an edit that is in the place of the file says nothing. The status is that of the course, or of what broke the writing off
 pub record PostconfRun (words : ConfWords) (before now : Objects) (status : ℕ) : Type 0 where
   pub courses : Courses words before.files now.files
   pub said : Result ⊤ SinkFault

@@ -8,7 +8,7 @@ use Rattle.pf_expand.specs.Names.{depth_limit, name_value, source_value}
 use Rattle.pf_maincf.specs.Settings.{Conf, line_of}
 use Rattle.pf_params.specs.Parameters.{refusal_of}
 use Rattle.pf_params.specs.Settled.{cause_of, settled_source}
-use Rattle.pf_params.specs.Sources.{preset_of}
+use Rattle.pf_params.specs.Sources.{default_value_of}
 use Rattle.pf_words.specs.declared.postconf.ConfMode.{ConfMode}
 use Rattle.pf_words.specs.declared.postconf.ConfMode.TheVariants as mode
 use Rattle.pf_words.specs.declared.postconf.ConfWords.{ConfWords}
@@ -17,7 +17,7 @@ use Rattle.pf_words.specs.declared.postconf.Shape.TheVariants as shape
 
 -- what a name stands for: with -d by default, and else where the settings count
 abbrev pub source_in : ConfMode → Conf → List ℕ → Source
-source_in mode.Defaults s name = preset_of name
+source_in mode.Defaults s name = default_value_of name
 source_in mode s name = settled_source s name
 
 -- the value of what a name stands for
@@ -29,7 +29,7 @@ abbrev pub shown : Bool → Conf → Source → Answer
 shown expanded s (Is bytes) = if expanded then value_in s (Is bytes) else Ok bytes
 shown expanded s (DomainOf name) = value_in s (DomainOf name)
 
--- the line of the setting that is shown of a name; a default stands in none
+-- the line of the setting that is shown of a name; a default is in none
 abbrev pub line_in : ConfMode → Conf → List ℕ → ℕ
 line_in mode.Defaults s name = 0
 line_in mode s name = line_of s name

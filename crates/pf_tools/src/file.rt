@@ -1,7 +1,7 @@
 //! What is said of main.cf as a file.
 ghost use Rattle.std.specs.Prelude.{◌≡◌, ◌≢◌, List as Seq, Some, Err, true, IfOk};
 ghost use Rattle.std.specs.Str.{IsUtf8};
-ghost use Rattle.pf_base.specs.Outside.Told.{failed_tree};
+ghost use Rattle.pf_base.specs.Outside.Known.{failed_tree};
 ghost use Rattle.pf_base.specs.declared.pair.Pair.{Pair};
 ghost use Rattle.pf_maincf.specs.Clauses.Faults.{Answers};
 ghost use Rattle.pf_maincf.specs.File.{Kept, bytes_in};
@@ -36,12 +36,12 @@ pub(crate) fn file_said<F: Files>(
     files: &mut F,
 ) -> Result<Said, FileFault>
     requires { sets_parameters words.now ≡ true }
-    ensures told { (all : Seq Pair) → (F.told files.old).content ≡ Some all
+    ensures known { (all : Seq Pair) → (F.known files.old).content ≡ Some all
         → Answers (spec.file_said file.now words.now (bytes_in all file.now)) result }
     ensures edited { IfOk result (λ said. spec.is_edited said ≡ is_edit words.now.mode) }
     ensures text { IfOk result (λ said. IsUtf8 file.now) }
-    ensures failed { result ≡ Err FileFault.Failed → Kept (failed_tree (F.told files.old)) (F.told files.new) }
-    ensures kept { result ≢ Err FileFault.Failed → Kept (F.told files.old) (F.told files.new) }
+    ensures failed { result ≡ Err FileFault.Failed → Kept (failed_tree (F.known files.old)) (F.known files.new) }
+    ensures kept { result ≢ Err FileFault.Failed → Kept (F.known files.old) (F.known files.new) }
 {
     match conf_text(alloc, file, files) {
         Ok(text) => read_said(alloc, file, words, text.as_slice()),

@@ -22,7 +22,7 @@ fn add_behind_sign(line: &mut Bytes, value: &[u8]) -> Result<(), NoMemory>
     line.extend(value)
 }
 
-// What stands in a line of a name and its value.
+// What is in a line of a name and its value.
 fn line_text(alloc: Global, shape: Shape, name: &[u8], value: &[u8]) -> Result<Bytes, NoMemory>
     ensures { IfOk result (λ text. text ≡ spec.line_text shape name.now value.now) }
 {

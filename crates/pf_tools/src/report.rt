@@ -82,9 +82,9 @@ fn edited_report<F: Files>(
     files: &mut F,
 ) -> Result<Report, NoMemory>
     requires { IsUtf8 file.now }
-    ensures report { IfOk result (IsEditReport file.now text.now (F.told files.old) (F.told files.new)) }
-    ensures err { OnErr result (Leaves file.now (course.unreplaced text.now) (F.told files.old) (F.told files.new)
-        ⊎ Leaves file.now (course.starves_editing text.now) (F.told files.old) (F.told files.new)) }
+    ensures report { IfOk result (IsEditReport file.now text.now (F.known files.old) (F.known files.new)) }
+    ensures err { OnErr result (Leaves file.now (course.unreplaced text.now) (F.known files.old) (F.known files.new)
+        ⊎ Leaves file.now (course.starves_editing text.now) (F.known files.old) (F.known files.new)) }
 {
     let Ok(name) = str::from_utf8(file) else {
         unreachable!();
@@ -106,10 +106,10 @@ pub(crate) fn gather<F: Files>(
     files: &mut F,
 ) -> Result<Report, NoMemory>
     requires { sets_parameters words.now ≡ true }
-    ensures ok { IfOk result (Reports words.now (F.told files.old) (F.told files.new)) }
-    ensures err { OnErr result (Unfinished words.now (F.told files.old) (F.told files.new)) }
+    ensures ok { IfOk result (Reports words.now (F.known files.old) (F.known files.new)) }
+    ensures err { OnErr result (Unfinished words.now (F.known files.old) (F.known files.new)) }
     ensures output { is_edit words.now.mode ≡ true → IfOk result (λ report. report.texts.out ≡ []) }
-    ensures same { is_edit words.now.mode ≡ false → (F.told files.new).content ≡ (F.told files.old).content }
+    ensures same { is_edit words.now.mode ≡ false → (F.known files.new).content ≡ (F.known files.old).content }
 {
     let name = conf_name(alloc, &words.folder)?;
     let file = name.as_slice();

@@ -1,7 +1,7 @@
 //! What is written at the end of a run.
 ghost use Rattle.std.specs.Prelude.{◌≡◌, [], IsOk};
 ghost use Rattle.pf_base.specs.Outside.Objects.{Says, sinks};
-ghost use Rattle.pf_base.specs.Outside.Told.{Output};
+ghost use Rattle.pf_base.specs.Outside.Known.{Output};
 
 use pf_base::{OuterFault, Sink, SinkFault, Texts, write_some};
 
@@ -13,8 +13,8 @@ pub(crate) fn say<O: Sink, J: Sink>(
     log: &mut J,
 ) -> Result<(), SinkFault>
     requires { texts.now.mail ≡ [] }
-    ensures says { (mail : Output) → Says (sinks (O.told out.old) mail (J.told log.old)) (sinks (O.told out.new) mail (J.told log.new)) texts.now result }
-    ensures no_output { texts.now.out ≡ [] → O.told out.new ≡ O.told out.old }
+    ensures says { (mail : Output) → Says (sinks (O.known out.old) mail (J.known log.old)) (sinks (O.known out.new) mail (J.known log.new)) texts.now result }
+    ensures no_output { texts.now.out ≡ [] → O.known out.new ≡ O.known out.old }
     ensures nothing { texts.now.out ≡ [] → texts.now.log ≡ [] → IsOk result }
 {
     match write_some(log, texts.log.as_slice()) {

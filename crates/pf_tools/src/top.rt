@@ -1,7 +1,7 @@
 //! The top call.
 ghost use Rattle.std.specs.Prelude.{◌≡◌, true};
 ghost use Rattle.pf_base.specs.Outside.Objects.{objects};
-ghost use Rattle.pf_base.specs.Outside.Told.{Input, Output};
+ghost use Rattle.pf_base.specs.Outside.Known.{Input, Output};
 ghost use Rattle.pf_tools.specs.Run.{PostconfRun};
 ghost use Rattle.pf_words.specs.Postconf.{sets_parameters};
 
@@ -24,8 +24,8 @@ pub fn postconf<F: Files, O: Sink, J: Sink>(
 ) -> u8
     requires { sets_parameters words.now ≡ true }
     ensures { (input : Input) (mail : Output) → PostconfRun words.now
-        (objects input (O.told out.old) mail (J.told log.old) (F.told files.old))
-        (objects input (O.told out.new) mail (J.told log.new) (F.told files.new)) result }
+        (objects input (O.known out.old) mail (J.known log.old) (F.known files.old))
+        (objects input (O.known out.new) mail (J.known log.new) (F.known files.new)) result }
 {
     let Ok(report) = gather(alloc, words, files) else {
         return NO_MEMORY;

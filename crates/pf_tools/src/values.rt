@@ -8,7 +8,7 @@ ghost use Rattle.pf_base.specs.declared.meaning.Meaning.TheVariants.{Is, DomainO
 ghost use Rattle.pf_maincf.specs.Clauses.Faults.{as_fault};
 ghost use Rattle.pf_expand.specs.Names as names;
 ghost use Rattle.pf_params.specs.Settled.{or_refused};
-ghost use Rattle.pf_params.specs.Sources.{preset_of};
+ghost use Rattle.pf_params.specs.Sources.{default_value_of};
 ghost use Rattle.pf_tools.specs.Values as spec;
 
 use pf_base::{Bytes, ConfFault, Meaning, NoMemory, Refused};
@@ -74,13 +74,13 @@ fn text_shown(alloc: Global, known: &Known, expanded: bool, text: &[u8]) -> Resu
 }
 
 // What is shown of a name by default.
-fn preset_shown(
+fn default_value_shown(
     alloc: Global,
     known: &Known,
     expanded: bool,
     name: &[u8],
 ) -> Result<Bytes, ConfFault>
-    ensures { Unless result ConfFault.NoMemory (λ r. r ≡ as_fault (or_refused known.now.file (spec.shown expanded known.now (preset_of name.now)))) }
+    ensures { Unless result ConfFault.NoMemory (λ r. r ≡ as_fault (or_refused known.now.file (spec.shown expanded known.now (default_value_of name.now)))) }
 {
     match param(name) {
         None => text_shown(alloc, known, expanded, b""),
@@ -93,7 +93,7 @@ fn preset_shown(
 
 // The setting of a name that counts.
 fn counting<'a>(mode: ConfMode, known: &'a Known, name: &[u8]) -> Option<&'a Setting>
-    ensures { spec.source_in mode known.now name.now ≡ option_map_or (λ s. Is s.value) (option_copied result) (preset_of name.now) }
+    ensures { spec.source_in mode known.now name.now ≡ option_map_or (λ s. Is s.value) (option_copied result) (default_value_of name.now) }
 {
     match mode {
         ConfMode::Defaults => None,
@@ -112,11 +112,11 @@ fn name_shown(
 {
     match counting(words.mode, known, name) {
         Some(setting) => text_shown(alloc, known, words.expanded, setting.value.as_slice()),
-        None => preset_shown(alloc, known, words.expanded, name),
+        None => default_value_shown(alloc, known, words.expanded, name),
     }
 }
 
-// The line of the setting that is shown of a name; a default stands in none.
+// The line of the setting that is shown of a name; a default is in none.
 fn line_in(mode: ConfMode, known: &Known, name: &[u8]) -> u64
     ensures { result ≡ spec.line_in mode known.now name.now }
 {

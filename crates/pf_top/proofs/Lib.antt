@@ -1,4 +1,4 @@
 mod Rows
 pub mod RunLemmas
 pub mod StatusLemmas
-pub mod TalkLemmas
+pub mod SessionLoopLemmas

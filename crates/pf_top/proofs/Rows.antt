@@ -30,13 +30,13 @@ use Rattle.pf_top.specs.Opening.{opening_of, reading_named, setup_of}
 use Rattle.pf_top.specs.Profile.{cause_from, is_within, parameter_refusal}
 use Rattle.pf_top.specs.Refusals.{file_opened, relay_refusal, settings_refusal}
 use Rattle.pf_top.specs.Run.{usage_line}
-use Rattle.pf_top.specs.Smtpd.{course_status, statuses_by, talk_status}
+use Rattle.pf_top.specs.Smtpd.{course_status, statuses_by, loop_status}
 use Rattle.pf_top.specs.Smtpd.{Course as course}
-use Rattle.pf_top.specs.Talk.{speech_of}
+use Rattle.pf_top.specs.SessionLoop.{speech_of}
 use Rattle.pf_top.specs.Values.{closed_list, host_of, hosts_of, is_closing, nets_of, one_or_more, relay_of, restriction_of}
 use Rattle.pf_top.specs.declared.opening.Opening.{Opening}
-use Rattle.pf_top.specs.declared.talk.Ended.TheVariants as ended
-use Rattle.pf_top.specs.declared.talk.TalkFault.TheVariants as fault
+use Rattle.pf_top.specs.declared.session_loop.Ended.TheVariants as ended
+use Rattle.pf_top.specs.declared.session_loop.LoopFault.TheVariants as fault
 use Rattle.pf_words.specs.Address.{ipv4_of, octet_of}
 
 -- what the examples share: a site, its settings and its text
@@ -220,10 +220,10 @@ greeting_alone : spoken 167838211 [] ≡ record { out = codes "220 mx.example.co
 unfolding greeting_of steps lines
 greeting_alone = refl
 
-abbrev talked : List ℕ
-talked = codes "HELO c.test\r\nMAIL FROM:<a@b.test>\r\nRCPT TO:<joe@other.test>\r\nQUIT\r\nQUIT\r\n"
+abbrev served : List ℕ
+served = codes "HELO c.test\r\nMAIL FROM:<a@b.test>\r\nRCPT TO:<joe@other.test>\r\nQUIT\r\nQUIT\r\n"
 
-texts_for_an_own_client : spoken 167838211 talked ≡ record {
+texts_for_an_own_client : spoken 167838211 served ≡ record {
   out = codes "220 mx.example.com ESMTP Postfix\r\n250 mx.example.com\r\n250 2.1.0 Ok\r\n250 2.1.5 Ok\r\n221 2.0.0 Bye\r\n";
   mail = [];
   log = codes "3 RCPT <joe@other.test> accept\n";
@@ -231,7 +231,7 @@ texts_for_an_own_client : spoken 167838211 talked ≡ record {
 unfolding greeting_of steps step command verb_of after_keyword path_of end_of text_of helo_text mail_text rcpt_text quit_text log_line printed_line accepted_text recipient_text digits lines
 texts_for_an_own_client = refl
 
-texts_for_a_stranger : spoken 3221225993 talked ≡ record {
+texts_for_a_stranger : spoken 3221225993 served ≡ record {
   out = codes "220 mx.example.com ESMTP Postfix\r\n250 mx.example.com\r\n250 2.1.0 Ok\r\n"
       ++ codes "554 5.7.1 <joe@other.test>: Relay access denied\r\n221 2.0.0 Bye\r\n";
   mail = [];
@@ -240,7 +240,7 @@ texts_for_a_stranger : spoken 3221225993 talked ≡ record {
 unfolding greeting_of steps step command verb_of after_keyword path_of end_of text_of helo_text mail_text rcpt_text relay_denied_text quit_text log_line printed_line denied_text recipient_text denial_text digits lines
 texts_for_a_stranger = refl
 
-over_behind_quit : map (speech_of (setup_of site 167838211)).over (talked ∷ codes "HELO c.test\r\nQUIT" ∷ [] ∷ []) ≡ true ∷ false ∷ false ∷ []
+over_behind_quit : map (speech_of (setup_of site 167838211)).over (served ∷ codes "HELO c.test\r\nQUIT" ∷ [] ∷ []) ≡ true ∷ false ∷ false ∷ []
 unfolding steps step command verb_of after_keyword path_of end_of lines
 over_behind_quit = refl
 
@@ -249,11 +249,11 @@ usage_of_the_words : usage_line ≡ codes "usage: postgate smtpd|relaycheck|post
 unfolding usage_line
 usage_of_the_words = refl
 
-statuses_of_sessions : map talk_status (Ok ended.AtEnd ∷ Ok ended.AtOver ∷ Ok ended.AtBudget ∷ Err fault.Input ∷ Err (fault.Sink sink.Out) ∷ Err (fault.Sink sink.NoMemory) ∷ [])
+statuses_of_sessions : map loop_status (Ok ended.AtEnd ∷ Ok ended.AtOver ∷ Ok ended.AtBudget ∷ Err fault.Input ∷ Err (fault.Sink sink.Out) ∷ Err (fault.Sink sink.NoMemory) ∷ [])
     ≡ 0 ∷ 0 ∷ 10 ∷ 4 ∷ 5 ∷ 9 ∷ []
 statuses_of_sessions = refl
 
-statuses_of_courses : map course_status (course.talks site (Ok ended.AtEnd) ∷ course.unread (Ok tt) ∷ course.unread (Err sink.Log) ∷ course.starves ∷ []) ≡ 0 ∷ 8 ∷ 7 ∷ 9 ∷ []
+statuses_of_courses : map course_status (course.serves site (Ok ended.AtEnd) ∷ course.unread (Ok tt) ∷ course.unread (Err sink.Log) ∷ course.starves ∷ []) ≡ 0 ∷ 8 ∷ 7 ∷ 9 ∷ []
 statuses_of_courses = refl
 
 statuses_of_openings : map statuses_by (Ok site ∷ Err (record { file = codes "main.cf"; line = 2; cause = C2; name = [] }) ∷ []) ≡ (0 ∷ 10 ∷ 9 ∷ []) ∷ (3 ∷ 9 ∷ []) ∷ []

@@ -1,6 +1,6 @@
 -- What a run leaves, put together.
 use Rattle.std.proofs.Common.{◌≡◌, ℕ, Option, None, Some, Err, refl, sym, ap, subst, ◌∙◌}
-use Rattle.pf_base.proofs.ToldLemmas.{stops_first}
+use Rattle.pf_base.proofs.KnownLemmas.{stops_first}
 use Rattle.pf_base.specs.Outside.Objects.{Objects, log_text}
 use Rattle.pf_base.specs.declared.outside.status.TheConstants.{NO_MEMORY}
 use Rattle.pf_base.specs.declared.outside.texts.SinkFault.TheVariants.{NoMemory}
@@ -16,7 +16,7 @@ use Rattle.pf_words.specs.declared.smtpd.SmtpdWords.{SmtpdWords}
 use Rattle.pf_words.specs.declared.words.Words.{Words}
 use Rattle.pf_words.specs.declared.words.Words.TheVariants.{Smtpd, Postconf}
 
--- memory was wanting before the command was known
+-- it was out of memory before the command was known
 pub nothing_left : (words : Option Words) (o : Objects) → Leaves words o o NO_MEMORY
 nothing_left None o = said_usage o o NO_MEMORY (Err NoMemory) refl (record { says = stops_first o.streams.sinks (log_text usage_line); input = refl }) refl
 nothing_left (Some (Smtpd words)) o = took_course words o o NO_MEMORY course.starves refl ((refl, refl), refl)

@@ -5,5 +5,5 @@ pub mod Profile
 pub mod Refusals
 pub mod Run
 pub mod Smtpd
-pub mod Talk
+pub mod SessionLoop
 pub mod Values

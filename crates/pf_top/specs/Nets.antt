@@ -6,7 +6,7 @@ use Rattle.pf_base.specs.Options.{◌>>=◌}
 use Rattle.pf_eval.specs.Nets.{Net}
 use Rattle.pf_words.specs.Address.{ipv4_of, octet_of}
 
--- the network of an address whose bits behind the prefix are 0
+-- the network of an address whose bits after the prefix are 0
 abbrev pub net_with : ℕ → ℕ → Option Net
 net_with addr prefix = if nat_le prefix 32 && addr % 2 ^ (32 - prefix) == 0 then Some (record { addr = addr; prefix = prefix }) else None
 

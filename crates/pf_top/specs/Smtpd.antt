@@ -3,7 +3,7 @@ use Rattle.std.specs.Prelude.{◌≡◌, ℕ, true, List, [], ◌∷◌, Some, R
 use Rattle.pf_base.specs.Outside.Objects.{Objects, Says, Streams, log_text, sink_status, status_of}
 use Rattle.pf_base.specs.Refusal.{refusal_line}
 use Rattle.pf_base.specs.Outside.Statuses.{HasCauses, NoneRose, counts_of, is_among}
-use Rattle.pf_base.specs.Outside.Told.{failed_tree}
+use Rattle.pf_base.specs.Outside.Known.{failed_tree}
 use Rattle.pf_base.specs.declared.pair.Pair.{Pair}
 use Rattle.pf_base.specs.declared.refused.Refused.{Refused}
 use Rattle.pf_base.specs.declared.outside.status.TheConstants.{AT_BUDGET, DONE, FILES_FAILED, INPUT_FAILED, LOG_FAILED, MAIL_FAILED, NO_MEMORY, OUT_FAILED, REFUSED}
@@ -11,25 +11,25 @@ use Rattle.pf_base.specs.declared.outside.texts.SinkFault.{SinkFault}
 use Rattle.pf_maincf.specs.File.{Kept, bytes_in, conf_name, failed_line}
 use Rattle.pf_top.specs.Opening.{setup_of}
 use Rattle.pf_top.specs.Refusals.{file_opened}
-use Rattle.pf_top.specs.Talk.{HasSession}
+use Rattle.pf_top.specs.SessionLoop.{HasSession}
 use Rattle.pf_top.specs.declared.opening.Opening.{Opening}
-use Rattle.pf_top.specs.declared.talk.Ended.{Ended}
-use Rattle.pf_top.specs.declared.talk.Ended.TheVariants as ended
-use Rattle.pf_top.specs.declared.talk.TalkFault.{TalkFault}
-use Rattle.pf_top.specs.declared.talk.TalkFault.TheVariants as fault
+use Rattle.pf_top.specs.declared.session_loop.Ended.{Ended}
+use Rattle.pf_top.specs.declared.session_loop.Ended.TheVariants as ended
+use Rattle.pf_top.specs.declared.session_loop.LoopFault.{LoopFault}
+use Rattle.pf_top.specs.declared.session_loop.LoopFault.TheVariants as fault
 use Rattle.pf_words.specs.declared.smtpd.SmtpdWords.{SmtpdWords}
 
 -- what the main.cf of these words says, or its first refusal
 abbrev pub opened_in : SmtpdWords → List Pair → Result Opening Refused
 opened_in words files = file_opened (conf_name words.folder) (bytes_in files (conf_name words.folder))
 
--- where the files tell, main.cf says this
+-- where the files are known, main.cf says this
 abbrev pub IsOpened : SmtpdWords → Objects → Result Opening Refused → Type 0
 IsOpened words before answer = (files : List Pair) → before.files.content ≡ Some files → opened_in words files ≡ answer
 
--- a run has a session by what main.cf says, it says why main.cf is refused, or that it can't be read, or memory is wanting before any of these
+-- a run has a session by what main.cf says, it says why main.cf is refused, or that it can't be read, or it is out of memory before any of these
 pub data Course : Type 0 where
-  talks : Opening → Result Ended TalkFault → Course
+  serves : Opening → Result Ended LoopFault → Course
   refuses : Refused → Result ⊤ SinkFault → Course
   unread : Result ⊤ SinkFault → Course
   starves : Course
@@ -41,7 +41,7 @@ pub record SaysLine (before now : Streams) (line : List ℕ) (said : Result ⊤ 
 
 -- why a course is taken, and what it leaves; a call on the files failed just once where main.cf can't be read, and else none
 abbrev pub Leaves : SmtpdWords → Objects → Objects → Course → Type 0
-Leaves words before now (talks opening result) =
+Leaves words before now (serves opening result) =
     IsOpened words before (Ok opening) × Kept before.files now.files
     × HasSession (setup_of opening words.client) words.budget before.streams now.streams result
 Leaves words before now (refuses refusal said) =
@@ -58,14 +58,14 @@ ended_status ended.AtEnd = DONE
 ended_status ended.AtOver = DONE
 ended_status ended.AtBudget = AT_BUDGET
 
-abbrev pub talk_status : Result Ended TalkFault → ℕ
-talk_status (Ok how) = ended_status how
-talk_status (Err fault.Input) = INPUT_FAILED
-talk_status (Err (fault.Sink why)) = sink_status why
+abbrev pub loop_status : Result Ended LoopFault → ℕ
+loop_status (Ok how) = ended_status how
+loop_status (Err fault.Input) = INPUT_FAILED
+loop_status (Err (fault.Sink why)) = sink_status why
 
 -- the status of a course
 abbrev pub course_status : Course → ℕ
-course_status (talks opening result) = talk_status result
+course_status (serves opening result) = loop_status result
 course_status (refuses refusal said) = status_of REFUSED said
 course_status (unread said) = status_of FILES_FAILED said
 course_status starves = NO_MEMORY

@@ -5,8 +5,8 @@ mod nets;
 mod opening;
 mod profile;
 mod refusal;
+mod session_loop;
 mod smtpd;
-mod talk;
 mod top;
 mod values;
 

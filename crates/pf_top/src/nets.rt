@@ -6,7 +6,7 @@ use pf_base::{before_byte, behind_byte};
 use pf_eval::PlainNet;
 use pf_words::{ipv4_of, octet_of};
 
-// The network of an address whose bits behind the prefix are 0.
+// The network of an address whose bits after the prefix are 0.
 fn net_with(addr: u32, prefix: u8) -> Option<PlainNet>
     ensures { result ≡ nets.net_with addr prefix }
 {
@@ -17,7 +17,7 @@ fn net_with(addr: u32, prefix: u8) -> Option<PlainNet>
     }
 }
 
-/// The network of an address, a slash and a prefix, with no bit behind the prefix; None where the text is none.
+/// The network of an address, a slash and a prefix, with no bit after the prefix; None where the text is none.
 #[tactic(auto, unfolding(crate::specs::Nets::net_of))]
 pub(crate) fn net_of(text: &[u8]) -> Option<PlainNet>
     ensures { result ≡ nets.net_of text.now }

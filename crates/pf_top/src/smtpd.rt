@@ -2,7 +2,7 @@
 ghost use Rattle.std.specs.Prelude.{◌≡◌, ◌≢◌, List as Seq, Some, Err, IfOk, codes};
 ghost use Rattle.pf_base.specs.Outside.Objects.{Says, log_text, objects, sinks};
 ghost use Rattle.pf_base.specs.Refusal.{refusal_line};
-ghost use Rattle.pf_base.specs.Outside.Told.{Output, failed_tree};
+ghost use Rattle.pf_base.specs.Outside.Known.{Output, failed_tree};
 ghost use Rattle.pf_base.specs.Clauses.Unless.{Unless};
 ghost use Rattle.pf_base.specs.declared.pair.Pair.{Pair};
 ghost use Rattle.pf_maincf.specs.Clauses.Faults.{Answers};
@@ -13,7 +13,7 @@ ghost use Rattle.pf_top.specs.Smtpd as spec;
 ghost use Rattle.pf_top.specs.Smtpd.{SmtpdRun};
 
 use crate::opening::{Opening, text_opened};
-use crate::talk::{Ended, TalkFault, talk};
+use crate::session_loop::{Ended, LoopFault, run_session};
 use pf_base::status::{AT_BUDGET, DONE, FILES_FAILED, INPUT_FAILED, NO_MEMORY, REFUSED};
 use pf_base::{ConfFault, Files, Refused, Sink, SinkFault, Source, status_behind, write_log};
 use pf_maincf::{FileFault, conf_name, conf_text, failed_line};
@@ -22,7 +22,7 @@ use std::alloc::Global;
 
 // What a main.cf of this name says that was read.
 fn read_opened(alloc: Global, file: &[u8], text: &[u8]) -> Result<Opening, FileFault>
-    ensures told { Answers (refusals.text_opened file.now text.now) result }
+    ensures known { Answers (refusals.text_opened file.now text.now) result }
     ensures files { result ≢ Err FileFault.Failed }
 {
     match text_opened(alloc, file, text) {
@@ -34,9 +34,9 @@ fn read_opened(alloc: Global, file: &[u8], text: &[u8]) -> Result<Opening, FileF
 
 // What main.cf says, or its first refusal, where it could be read.
 fn open_conf<F: Files>(alloc: Global, file: &[u8], files: &mut F) -> Result<Opening, FileFault>
-    ensures told { (all : Seq Pair) → (F.told files.old).content ≡ Some all → Answers (file_opened file.now (bytes_in all file.now)) result }
-    ensures failed { result ≡ Err FileFault.Failed → Kept (failed_tree (F.told files.old)) (F.told files.new) }
-    ensures kept { result ≢ Err FileFault.Failed → Kept (F.told files.old) (F.told files.new) }
+    ensures known { (all : Seq Pair) → (F.known files.old).content ≡ Some all → Answers (file_opened file.now (bytes_in all file.now)) result }
+    ensures failed { result ≡ Err FileFault.Failed → Kept (failed_tree (F.known files.old)) (F.known files.new) }
+    ensures kept { result ≢ Err FileFault.Failed → Kept (F.known files.old) (F.known files.new) }
 {
     match conf_text(alloc, file, files) {
         Ok(text) => read_opened(alloc, file, text.as_slice()),
@@ -46,7 +46,7 @@ fn open_conf<F: Files>(alloc: Global, file: &[u8], files: &mut F) -> Result<Open
 
 // Says why main.cf is not accepted.
 fn say_refused<J: Sink>(alloc: Global, refusal: &Refused, log: &mut J) -> Result<(), SinkFault>
-    ensures { (out mail : Output) → Says (sinks out mail (J.told log.old)) (sinks out mail (J.told log.new)) (log_text (refusal_line refusal.now)) result }
+    ensures { (out mail : Output) → Says (sinks out mail (J.known log.old)) (sinks out mail (J.known log.new)) (log_text (refusal_line refusal.now)) result }
 {
     let Ok(line) = refusal.line(alloc) else {
         return Err(SinkFault::NoMemory);
@@ -56,7 +56,7 @@ fn say_refused<J: Sink>(alloc: Global, refusal: &Refused, log: &mut J) -> Result
 
 // Says that main.cf could not be read.
 fn say_unread<J: Sink>(alloc: Global, file: &[u8], log: &mut J) -> Result<(), SinkFault>
-    ensures { (out mail : Output) → Says (sinks out mail (J.told log.old)) (sinks out mail (J.told log.new)) (log_text (failed_line file.now (codes "read"))) result }
+    ensures { (out mail : Output) → Says (sinks out mail (J.known log.old)) (sinks out mail (J.known log.new)) (log_text (failed_line file.now (codes "read"))) result }
 {
     let Ok(line) = failed_line(alloc, file, b"read") else {
         return Err(SinkFault::NoMemory);
@@ -76,13 +76,13 @@ fn ended_status(ended: Ended) -> u8
 }
 
 // The status of a session.
-fn talk_status(talked: Result<Ended, TalkFault>) -> u8
-    ensures { result ≡ spec.talk_status talked }
+fn loop_status(served: Result<Ended, LoopFault>) -> u8
+    ensures { result ≡ spec.loop_status served }
 {
-    match talked {
+    match served {
         Ok(ended) => ended_status(ended),
-        Err(TalkFault::Input) => INPUT_FAILED,
-        Err(TalkFault::Sink(fault)) => fault.status(),
+        Err(LoopFault::Input) => INPUT_FAILED,
+        Err(LoopFault::Sink(fault)) => fault.status(),
     }
 }
 
@@ -98,8 +98,8 @@ pub(crate) fn run_smtpd<S: Source, O: Sink, M: Sink, J: Sink, F: Files>(
     files: &mut F,
 ) -> u8
     ensures { SmtpdRun words.now
-        (objects (S.told input.old) (O.told out.old) (M.told mail.old) (J.told log.old) (F.told files.old))
-        (objects (S.told input.new) (O.told out.new) (M.told mail.new) (J.told log.new) (F.told files.new)) result }
+        (objects (S.known input.old) (O.known out.old) (M.known mail.old) (J.known log.old) (F.known files.old))
+        (objects (S.known input.new) (O.known out.new) (M.known mail.new) (J.known log.new) (F.known files.new)) result }
 {
     let Ok(name) = conf_name(alloc, &words.folder) else {
         return NO_MEMORY;
@@ -108,7 +108,7 @@ pub(crate) fn run_smtpd<S: Source, O: Sink, M: Sink, J: Sink, F: Files>(
     match open_conf(alloc, file, files) {
         Ok(opening) => {
             let (client, budget) = (words.client, words.budget);
-            talk_status(talk(alloc, opening, client, budget, input, out, mail, log))
+            loop_status(run_session(alloc, opening, client, budget, input, out, mail, log))
         }
         Err(FileFault::Refused(refusal)) => status_behind(
             REFUSED,

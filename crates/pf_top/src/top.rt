@@ -2,7 +2,7 @@
 ghost use Rattle.std.specs.Prelude.{map};
 ghost use Rattle.std.specs.String.{string_bytes};
 ghost use Rattle.pf_base.specs.Outside.Objects.{Says, log_text, objects, sinks};
-ghost use Rattle.pf_base.specs.Outside.Told.{Output};
+ghost use Rattle.pf_base.specs.Outside.Known.{Output};
 ghost use Rattle.pf_top.specs.Run.{Leaves, usage_line};
 ghost use Rattle.pf_words.specs.Words as spec;
 
@@ -16,7 +16,7 @@ use std::alloc::Global;
 // Says how the program is used.
 #[tactic(auto, unfolding(crate::specs::Run::usage_line))]
 fn say_usage<J: Sink>(log: &mut J) -> Result<(), SinkFault>
-    ensures { (out mail : Output) → Says (sinks out mail (J.told log.old)) (sinks out mail (J.told log.new)) (log_text usage_line) result }
+    ensures { (out mail : Output) → Says (sinks out mail (J.known log.old)) (sinks out mail (J.known log.new)) (log_text usage_line) result }
 {
     write_log(
         log,
@@ -39,8 +39,8 @@ pub fn run<S: Source, O: Sink, M: Sink, J: Sink, F: Files>(
     files: &mut F,
 ) -> u8
     ensures { Leaves (spec.words_of (map string_bytes words.now))
-        (objects (S.told input.old) (O.told out.old) (M.told mail.old) (J.told log.old) (F.told files.old))
-        (objects (S.told input.new) (O.told out.new) (M.told mail.new) (J.told log.new) (F.told files.new)) result }
+        (objects (S.known input.old) (O.known out.old) (M.known mail.old) (J.known log.old) (F.known files.old))
+        (objects (S.known input.new) (O.known out.new) (M.known mail.new) (J.known log.new) (F.known files.new)) result }
 {
     match words_of(alloc, words) {
         Ok(Some(Words::Smtpd(words))) => run_smtpd(alloc, &words, input, out, mail, log, files),

@@ -1,5 +1,5 @@
 -- The words of postconf (postconf(1)): postconf [-n or -d] [-x] [-h or -H] [-c folder] [-o name=value] [name ..], and postconf -e [-c folder]
--- name=value .. for an edit. Which options stand beside which is postgate's own.
+-- name=value .. for an edit. Which options are beside which is postgate's own.
 use Rattle.std.specs.Prelude.{ℕ, ◌&&◌, ◌||◌, Bool, true, false, not, nat_lt, List, Option, Some, None, length, codes, is_some, if◌then◌else◌}
 use Rattle.std.specs.Option.{option_and_then, option_map_or}
 use Rattle.clap.specs.Words.{Row}

@@ -14,7 +14,7 @@ abbrev pub budget_in : Option (List ℕ) → Option ℕ
 budget_in None = Some greatest_budget
 budget_in (Some text) = budget_of text
 
--- what the options say: -p and -m have to stand, the value of -p is an address and that of -b a budget
+-- what the options say: -p and -m have to be, the value of -p is an address and that of -b a budget
 unfoldable pub smtpd_in : List Row → Option SmtpdWords
 smtpd_in rows = do
   address ← value_in (codes "client") rows

@@ -102,7 +102,7 @@ fn has_print_option(matches: &ArgMatches<'_>) -> bool
         || value_in(matches, "over").is_some()
 }
 
-// Whether no two options stand beside each other that do not go together.
+// Whether no two options are beside each other that do not go together.
 fn options_agree(matches: &ArgMatches<'_>) -> bool
     ensures { result ≡ postconf.options_agree (rows_found matches.now) }
 {

@@ -24,7 +24,7 @@ pub struct SmtpdWords {
     pub budget: u64,
 }
 
-// The same, with the names as they stand in the words.
+// The same, with the names as they are in the words.
 #[derive(Clone, Copy)]
 pub(crate) struct Options<'a> {
     pub(crate) folder: Option<&'a str>,

@@ -20,7 +20,7 @@ const LOG_FAILED: u8 = 7;
 
 const NO_MEMORY: u8 = 9;
 
-// Words that are no text are no well-formed command; the kit tells them apart from want of memory.
+// Words that are no text are no well-formed command; the kit tells them apart from lack of memory.
 fn answer_fault(rt: &HostRuntime, kind: ErrorKind) -> u8 {
     if kind == ErrorKind::OutOfMemory {
         return NO_MEMORY;

@@ -1,5 +1,5 @@
 //! Takes steps with the real objects and says what they come to, of the rows of the file `rows`: `ok`, `failed`, or what is
-//! seen. The front of a row is a step and a name:
+//! seen. The prefix of a row is a step and a name:
 //!
 //! - `begin` begins a case, with files of which nothing was asked yet and sinks that were not written
 //! - `size`, `read` (four bytes from the place that the text is: how many came, and all four) and `replace`, of the files, and
@@ -32,10 +32,10 @@ impl Says for Steps<'_> {
         &mut self,
         _: Global,
         said: &mut Bytes,
-        front: &str,
+        prefix: &str,
         text: &str,
     ) -> Result<(), NoMemory> {
-        let (step, name) = front.split_once(' ').unwrap_or((front, ""));
+        let (step, name) = prefix.split_once(' ').unwrap_or((prefix, ""));
         if step == "begin" {
             self.objects = Objects::new(self.rt);
             return said.extend(b"ok");

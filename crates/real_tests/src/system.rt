@@ -46,7 +46,7 @@ fn yes_or_no(rt: &HostRuntime, yes: bool) -> io::Result<String> {
     Ok(String::from_str(rt.alloc(), text)?)
 }
 
-// Writes a text into a file of this name as it stands, which was last changed so long after 1970.
+// Writes a text into a file of this name as it is, which was last changed so long after 1970.
 fn put(rt: &HostRuntime, name: &str, text: &str, age: Duration) -> io::Result<()> {
     let mut file = fs::create(rt, name)?;
     file.write_all(text.as_bytes())?;

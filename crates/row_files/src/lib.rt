@@ -9,12 +9,12 @@ use std::{fs, io};
 
 /// What says something of texts.
 pub trait Says {
-    /// Adds what is said of a text, of what the front of its row asks.
+    /// Adds what is said of a text, of what the prefix of its row asks.
     fn say(
         &mut self,
         alloc: Global,
         said: &mut Bytes,
-        front: &str,
+        prefix: &str,
         text: &str,
     ) -> Result<(), NoMemory>;
 }
@@ -43,14 +43,14 @@ fn decoded(alloc: Global, row: &str) -> Result<String, NoMemory> {
 // Whether a row is so.
 fn is_so<S: Says>(alloc: Global, says: &mut S, line: &str) -> Result<bool, NoMemory> {
     let row = decoded(alloc, line)?;
-    let Some((front, behind)) = row.as_str().split_once('¦') else {
+    let Some((prefix, behind)) = row.as_str().split_once('¦') else {
         return Ok(false);
     };
     let Some((text, wanted)) = behind.split_once('¦') else {
         return Ok(false);
     };
     let mut said = Bytes::new(alloc);
-    says.say(alloc, &mut said, front, text)?;
+    says.say(alloc, &mut said, prefix, text)?;
     Ok(said.as_slice() == wanted.as_bytes())
 }
 
@@ -91,7 +91,7 @@ fn look<S: Says>(rt: &HostRuntime, says: &mut S) -> io::Result<bool> {
 }
 
 /// Prints each row of the file `rows` that is not so, and how many rows there are. It fails where one is not so, where the file
-/// can not be read, and for want of memory.
+/// can not be read, and for lack of memory.
 pub fn judge_rows<S: Says>(rt: &HostRuntime, says: &mut S) -> ExitCode {
     match look(rt, says) {
         Ok(true) => ExitCode::SUCCESS,

@@ -1,12 +1,12 @@
 //! Reads rows of table texts and of what each holds or answers, and prints what pf_table says where it says otherwise, and how
 //! many rows there were.
 //!
-//! A row is `KIND¦TEXT¦SAID`. KIND is `text` or `inline`, with ` -f` behind it where keys are not folded and ` -r` where the last
+//! A row is `KIND¦TEXT¦SAID`. KIND is `text` or `inline`, with ` -f` after it where keys are not folded and ` -r` where the last
 //! of repeated keys counts; SAID then has the pairs, each as `KEY=VALUE`, and the repeated keys, each as `#LINE KEY`, all parted by
-//! bars, or the line of the refusal. Where a KEY stands behind KIND and a question mark, SAID is the value, `none` or `fails`; where
-//! an asterisk stands there, SAID is `partial` and each value that the table may give. Such a KIND may also be `static` or `fail`. In
+//! bars, or the line of the refusal. Where a KEY is after KIND and a question mark, SAID is the value, `none` or `fails`; where
+//! an asterisk is there, SAID is `partial` and each value that the table may give. Such a KIND may also be `static` or `fail`. In
 //! `first N?KEY` TEXT is inline tables, parted by `;`, that are asked in turn, and the lookup of number N fails: then SAID may be
-//! `failed`. A line feed, a carriage return, a tab and a byte of 0 stand as `␊`, `␍`, `␉` and `␀`.
+//! `failed`. A line feed, a carriage return, a tab and a byte of 0 are `␊`, `␍`, `␉` and `␀`.
 //! Rows that begin with `# ` are comments.
 #![tactic(auto)]
 
@@ -60,7 +60,7 @@ fn add_fault(alloc: Global, said: &mut Bytes, fault: &ConfFault) -> Result<(), N
         ConfFault::Refused(refused) => {
             let line = refused.line(alloc)?;
             match line.as_slice() {
-                [front @ .., b'\n'] => add_field(said, &[front]),
+                [prefix @ .., b'\n'] => add_field(said, &[prefix]),
                 _ => add_field(said, &[]),
             }
         }
@@ -206,34 +206,34 @@ fn say(
 }
 
 // What is said of the tables of a text.
-fn say_of(alloc: Global, said: &mut Bytes, front: &str, text: &str) -> Result<(), NoMemory> {
-    match front.split_once('?') {
+fn say_of(alloc: Global, said: &mut Bytes, prefix: &str, text: &str) -> Result<(), NoMemory> {
+    match prefix.split_once('?') {
         Some((kind, key)) => match kind.strip_prefix("first ") {
             Some(number) => {
                 say_first(alloc, said, text, number.parse::<u64>().unwrap_or(0), key)
             }
             None => say(alloc, said, kind, text, Question::Key(key)),
         },
-        None => match front.strip_suffix("*") {
+        None => match prefix.strip_suffix("*") {
             Some(kind) => say(alloc, said, kind, text, Question::Results),
-            None => say(alloc, said, front, text, Question::Pairs),
+            None => say(alloc, said, prefix, text, Question::Pairs),
         },
     }
 }
 
-// The row of a table, as it should stand.
-fn row_of(alloc: Global, front: &str, text: &str) -> Result<Bytes, NoMemory> {
-    let mut said = Bytes::from_slice(alloc, front.as_bytes())?;
+// The row of a table, as it should be.
+fn row_of(alloc: Global, prefix: &str, text: &str) -> Result<Bytes, NoMemory> {
+    let mut said = Bytes::from_slice(alloc, prefix.as_bytes())?;
     add_field(&mut said, &[text.as_bytes()])?;
-    say_of(alloc, &mut said, front, text)?;
+    say_of(alloc, &mut said, prefix, text)?;
     Ok(said)
 }
 
-// Prints a row that is not as it should stand.
+// Prints a row that is not as it should be.
 fn look_at(rt: &HostRuntime, alloc: Global, row: &str) -> io::Result<()> {
-    let (front, behind) = row.split_once('¦').unwrap_or((row, ""));
+    let (prefix, behind) = row.split_once('¦').unwrap_or((row, ""));
     let (text, _) = behind.split_once('¦').unwrap_or((behind, ""));
-    match row_of(alloc, front, text) {
+    match row_of(alloc, prefix, text) {
         Ok(said) => {
             if said.as_slice() != row.as_bytes() {
                 println!(rt; "not so: {row}")?;

@@ -100,10 +100,10 @@ fn add_words(alloc: Global, said: &mut Bytes, list: &[String]) -> Result<(), NoM
     }
 }
 
-fn add_name(said: &mut Bytes, front: &[u8], name: Option<&str>) -> Result<(), NoMemory> {
+fn add_name(said: &mut Bytes, prefix: &[u8], name: Option<&str>) -> Result<(), NoMemory> {
     match name {
         None => Ok(()),
-        Some(name) => said.extend_all(&[front, name.as_bytes()]),
+        Some(name) => said.extend_all(&[prefix, name.as_bytes()]),
     }
 }
 
@@ -165,15 +165,15 @@ impl Says for Asked {
         &mut self,
         alloc: Global,
         said: &mut Bytes,
-        front: &str,
+        prefix: &str,
         text: &str,
     ) -> Result<(), NoMemory> {
         let list = words(alloc, text)?;
-        match front {
+        match prefix {
             "words" => add_words(alloc, said, list.as_slice()),
             "sinks" => add_sinks(alloc, said, list.as_slice()),
             "edit" => add_edit(alloc, said, list.as_slice()),
-            _ => add_part(alloc, said, front, text),
+            _ => add_part(alloc, said, prefix, text),
         }
     }
 }

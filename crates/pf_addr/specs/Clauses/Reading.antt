@@ -10,18 +10,18 @@ use Rattle.pf_addr.specs.declared.address.Path.TheVariants.{Null, To}
 use Rattle.pf_addr.specs.declared.address.PathRead.{PathRead}
 use Rattle.pf_addr.specs.declared.mailbox.Mailbox.{Mailbox}
 
--- the place of the quote that closes a quoted string, in what stands behind its first quote; taken says that a backslash stands in front
+-- the place of the quote that closes a quoted string, in what is after its first quote; taken says that a backslash is in prefix
 abbrev pub closing_quote : Bool → List ℕ → Option ℕ
 closing_quote taken [] = None
 closing_quote taken (b ∷ text) =
     if not taken && b == ascii.double_quote then Some 0 else option_map (λ n. n + 1) (closing_quote (not taken && b == ascii.backslash) text)
 
--- what stands in a quoted string, without its backslashes
+-- what is in a quoted string, without its backslashes
 abbrev pub unquoted : Bool → List ℕ → List ℕ
 unquoted taken [] = []
 unquoted taken (b ∷ text) = if not taken && b == ascii.backslash then unquoted true text else b ∷ unquoted false text
 
--- the place behind the last at sign
+-- the place after the last at sign
 abbrev pub behind_at : List ℕ → ℕ
 behind_at [] = 0
 behind_at (b ∷ text) = if behind_at text == 0 then (if b == ascii.at_sign then 1 else 0) else behind_at text + 1
@@ -89,7 +89,7 @@ route_len_of text route = if nat_lt (length route) (length text) && is_route rou
 unfoldable pub route_len : List ℕ → ℕ
 route_len text = route_len_of text (before_first (λ b. b == ascii.colon) text)
 
--- the same path, behind so many bytes
+-- the same path, after so many bytes
 abbrev pub behind : ℕ → Option PathRead → Option PathRead
 behind n None = None
 behind n (Some read) = Some (record { path = read.path; end = n + read.end })
@@ -108,11 +108,11 @@ closed_of text (Some m) =
     if slice_index text (mailbox_len m) == ascii.greater_than_sign
     then Some (record { path = To (address_of text m); end = mailbox_len m + 1 }) else None
 
--- a mailbox and the bracket behind it
+-- a mailbox and the bracket after it
 unfoldable pub closed : List ℕ → Option PathRead
 closed text = closed_of text (mailbox text)
 
--- what stands behind the first bracket of a path
+-- what is after the first bracket of a path
 unfoldable pub bracketed : List ℕ → Option PathRead
 bracketed text =
     if slice_index text 0 == ascii.greater_than_sign then Some (record { path = Null; end = 1 })
@@ -122,6 +122,6 @@ bracketed text =
 unfoldable pub path : List ℕ → Option PathRead
 path text = if slice_index text 0 == ascii.less_than_sign then behind 1 (bracketed (drop 1 text)) else bare text
 
--- a path behind space
+-- a path after space
 unfoldable pub reading : List ℕ → Option PathRead
 reading text = behind (prefix_len is_space text) (path (drop (prefix_len is_space text) text))

@@ -1,4 +1,4 @@
--- What an object outside that answers questions tells contracts, and what is heard of it in place of what it means.
+-- What an object outside that answers questions makes known to contracts, and what is heard of it in place of what it means.
 -- Words of contracts, by no standard.
 use Rattle.std.specs.Prelude.{◌≡◌, ℕ, Bool, true, false, List, Option, None, Some}
 use Rattle.std.specs.List.{count_by, list_all}
@@ -6,15 +6,15 @@ use Rattle.std.specs.Option.{unwrap_or}
 use Rattle.pf_base.specs.Outside.Counts.{counted_by}
 use Rattle.pf_asks.specs.Clauses.Causes.{counted_if}
 
--- what the object means, where it tells, and how often a call has failed
+-- what the object means, where that is known, and how often a call has failed
 pub record Held (C : Type 0) : Type 0 where
   pub content : Option C
   pub faults : ℕ
 
--- an object that tells means this; one that tells nothing may mean anything
+-- a known object means this; one of which nothing is known may mean anything
 abbrev pub Tells : {C : Type 0} → Option C → C → Type 0
 Tells None meant = Unit {0}
-Tells (Some told) meant = told ≡ meant
+Tells (Some known) meant = known ≡ meant
 
 -- a call was made, which failed or not; the object means what it meant
 abbrev pub called : {C : Type 0} → Bool → Held C → Held C
@@ -34,7 +34,7 @@ abbrev pub is_meant_or_failure : {A : Type 0} → (A → Bool) → Option A → 
 is_meant_or_failure fails None = true
 is_meant_or_failure fails (Some answer) = fails answer
 
--- this was heard of some calls: just as many failures as the count of faults rose, and, where the object tells, no other answer in
+-- this was heard of some calls: just as many failures as the count of faults rose, and, where the object is known, no other answer in
 -- place of what it means
 pub record Hears {C A : Type 0} (fails : A → Bool) (old new : Held C) (heard : List (Option A)) : Type 0 where
   pub kept : new.content ≡ old.content
@@ -44,10 +44,10 @@ pub record Hears {C A : Type 0} (fails : A → Bool) (old new : Held C) (heard :
 -- one call was answered as the object means, or as was heard in place of that
 pub record Answered {C A : Type 0} (fails : A → Bool) (content : Option C) (meant : C → A) (result : A) : Type 0 where
   pub heard : Option A
-  pub only : (told : C) → content ≡ Some told → is_meant_or_failure fails heard ≡ true
-  pub is : (told : C) → Tells content told → result ≡ unwrap_or heard (meant told)
+  pub only : (known : C) → content ≡ Some known → is_meant_or_failure fails heard ≡ true
+  pub is : (known : C) → Tells content known → result ≡ unwrap_or heard (meant known)
 
 -- an answer that is no failure, and that the object still means
 pub record Holds {C A : Type 0} (fails : A → Bool) (content : Option C) (meant : C → A) (result : A) : Type 0 where
   pub works : fails result ≡ false
-  pub is : (told : C) → content ≡ Some told → result ≡ meant told
+  pub is : (known : C) → content ≡ Some known → result ≡ meant known

@@ -17,7 +17,7 @@ use Rattle.pf_asks.specs.declared.lookup.TableFault.TheVariants.{NoMemory}
 use Rattle.pf_asks.specs.declared.resolver.Kind.{Kind}
 use Rattle.pf_asks.specs.declared.resolver.Row.{Row}
 
--- what was sent of a request: nothing where the connection was refused, a front where sending failed, else all of it
+-- what was sent of a request: nothing where the connection was refused, a prefix where sending failed, else all of it
 abbrev pub IsSent : Outcome → List ℕ → List ℕ → Type 0
 IsSent (Down Connect) text sent = sent ≡ []
 IsSent (Down Send) text sent = (n : ℕ) × (sent ≡ take n text)
@@ -40,10 +40,10 @@ Uses old (request ∷ asked) [] new = ⊥
 Uses old (request ∷ asked) (outcome ∷ outcomes) new =
     (sent : List ℕ) × IsSent outcome request.text sent × (outcome ≡ (next_outcome old.outcomes).0) × Uses (tried request.service sent old) asked outcomes new
 
--- the same of links, which may tell nothing
-abbrev pub UsesTold : Option Wire → List Request → List Outcome → Option Wire → Type 0
-UsesTold None asked heard new = new ≡ None
-UsesTold (Some wire) asked heard new = (after : Wire) × (new ≡ Some after) × Uses wire asked heard after
+-- the same of links, of which nothing may be known
+abbrev pub UsesKnown : Option Wire → List Request → List Outcome → Option Wire → Type 0
+UsesKnown None asked heard new = new ≡ None
+UsesKnown (Some wire) asked heard new = (after : Wire) × (new ≡ Some after) × Uses wire asked heard after
 
 -- this was heard of some lookups
 pub record Looks (old new : Tables) (heard : List (Option Looked)) : Type 0 where
@@ -53,7 +53,7 @@ pub record Looks (old new : Tables) (heard : List (Option Looked)) : Type 0 wher
 -- this was heard of some tries; just as many were down as the count of faults rose
 pub record Links (old new : Held Wire) (asked : List Request) (heard : List Outcome) : Type 0 where
   pub faults : new.faults ≡ counted_by (count_by is_down heard) old.faults
-  pub uses : UsesTold old.content asked heard new.content
+  pub uses : UsesKnown old.content asked heard new.content
 
 -- what is asked: tables, policy services, and a resolver
 pub record World : Type 0 where
@@ -64,12 +64,12 @@ pub record World : Type 0 where
 abbrev pub world : Tables → Held Wire → Held (List Row) → World
 world tables links resolver = record { tables = tables; links = links; resolver = resolver }
 
--- what the objects that tell mean
+-- what known objects mean
 pub record Meant (w : World) (means : Means) : Type 0 where
   pub values : Tells w.tables.held.content means.values
   pub rows : Tells w.resolver.content means.rows
 
--- something is heard, and requests are made, that lead from the one question to the other, whatever is heard behind it
+-- something is heard, and requests are made, that lead from the one question to the other, whatever is heard after it
 pub record Led {A : Type 0} (old new : World) (p q : Ask A) : Type 0 where
   pub heard : Heard
   pub asked : List Request
@@ -104,7 +104,7 @@ ByLinks old new p x = LinksLed old new p (done x)
 abbrev pub ByResolver : {A : Type 0} → Held (List Row) → Held (List Row) → Ask A → A → Type 0
 ByResolver old new p x = ResolverLed old new p (done x)
 
--- a try that want of memory broke off: none was begun, or a front of its request was sent; it is over, and counted no fault
+-- a try that lack of memory broke off: none was begun, or a prefix of its request was sent; it is over, and counted no fault
 abbrev pub IsCut : Option Wire → Option Wire → List ℕ → List ℕ → Type 0
 IsCut None new service text = new ≡ None
 IsCut (Some wire) new service text = (new ≡ Some (hung_up wire)) ⊎ ((n : ℕ) × (new ≡ Some (tried service (take n text) wire)))
@@ -142,7 +142,7 @@ pub record WantsAtTry {A : Type 0} (old new : World) (p : Ask A) : Type 0 where
   pub cut : Cut mid.links links service text
   pub left : new ≡ record mid { links = links }
 
--- want of memory broke a question off
+-- lack of memory broke a question off
 abbrev pub BrokenOff : {A : Type 0} → World → World → Ask A → Type 0
 BrokenOff old new p = WantsAtLookup old new p ⊎ (WantsAtName old new p ⊎ WantsAtTry old new p)
 
@@ -156,7 +156,7 @@ LinksBroken old new p = (w : World) → BrokenOff (record w { links = old }) (re
 abbrev pub ResolverBroken : {A : Type 0} → Held (List Row) → Held (List Row) → Ask A → Type 0
 ResolverBroken old new p = (w : World) → BrokenOff (record w { resolver = old }) (record w { resolver = new }) p
 
--- a call answered the question, or want of memory broke it off
+-- a call answered the question, or lack of memory broke it off
 abbrev pub Asks : {A E : Type 0} → World → World → Ask A → Result A E → Type 0
 Asks old new p result = MatchResult result (Answers old new p) (λ _. BrokenOff old new p)
 
@@ -169,7 +169,7 @@ AsksLinks old new p result = MatchResult result (ByLinks old new p) (λ _. Links
 abbrev pub AsksResolver : {A E : Type 0} → Held (List Row) → Held (List Row) → Ask A → Result A E → Type 0
 AsksResolver old new p result = MatchResult result (ByResolver old new p) (λ _. ResolverBroken old new p)
 
--- the same of tables and a question that a fault may end, where this fault is want of memory
+-- the same of tables and a question that a fault may end, where this fault is lack of memory
 abbrev pub TriesTables : {A E : Type 0} → Tables → Tables → E → Try E A → Result A E → Type 0
 TriesTables old new no_memory p result = MatchResult result (λ x. ByTables old new p (Ok x))
     (λ fault. (fault ≢ no_memory → ByTables old new p (Err fault)) × (fault ≡ no_memory → TablesBroken old new p))

@@ -35,6 +35,6 @@ pub record MemoryResolver : Type 0 where
 abbrev pub resolver_with : List Row → List ℕ → Option MemoryResolver
 resolver_with rows failing = if have_values rows then Some (record { rows = rows; calls = none_made failing }) else None
 
--- what it tells
+-- what is known of it
 abbrev pub resolver_held : MemoryResolver → Held (List Row)
 resolver_held resolver = record { content = Some resolver.rows; faults = resolver.calls.faults }

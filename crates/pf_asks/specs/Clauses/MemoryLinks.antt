@@ -34,7 +34,7 @@ abbrev pub left_in : Option Open → List ℕ
 left_in None = []
 left_in (Some one) = one.left
 
--- the tries that were begun; the request of an open one stands beside them until it is over
+-- the tries that were begun; the request of an open one is beside them until it is over
 abbrev pub all_tries : Bool → Request → List Request → List Request
 all_tries true request tries = take (length tries - 1) tries ++ request ∷ []
 all_tries false request tries = tries
@@ -43,11 +43,11 @@ abbrev pub open_try : Bool → Outcome → ℕ → Option Open
 open_try true outcome read = Some (record { outcome = outcome; left = drop read (reply_bytes outcome) })
 open_try false outcome read = None
 
--- the place of the next outcome behind this one
+-- the place of the next outcome after this one
 abbrev pub behind_place : ℕ → ℕ → ℕ
 behind_place place count = if nat_lt place count then place + 1 else place
 
--- policy services: what the wire tells, and how many calls failed
+-- policy services: what is known of the wire, and how many calls failed
 pub record MemoryLinks : Type 0 where
   pub wire : Wire
   pub faults : ℕ
@@ -56,6 +56,6 @@ pub record MemoryLinks : Type 0 where
 abbrev pub links_with : List Outcome → MemoryLinks
 links_with outcomes = record { wire = record { outcomes = outcomes; tries = []; opened = None }; faults = 0 }
 
--- what they tell
+-- what is known of them
 abbrev pub links_held : MemoryLinks → Held Wire
 links_held links = record { content = Some links.wire; faults = links.faults }

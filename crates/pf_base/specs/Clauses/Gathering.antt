@@ -7,12 +7,12 @@ use Rattle.pf_base.specs.declared.text.logical.Gathered.{Gathered}
 use Rattle.pf_base.specs.declared.text.logical.TextFault.{TextFault}
 use Rattle.pf_base.specs.declared.text.logical.TextFault.TheVariants.{Continuation}
 
--- lines so far, the last of which may go on, and then those behind them
+-- lines so far, the last of which may go on, and then those after them
 abbrev pub followed_by : List Logical → Option Logical → Grouped → Grouped
 followed_by closed None g = record { leading = g.leading; logical = closed ++ g.logical }
 followed_by closed (Some last) g = record { leading = []; logical = closed ++ (fold continued last g.leading ∷ g.logical) }
 
--- the lines so far, and then those behind them
+-- the lines so far, and then those after them
 abbrev pub then_grouped : Gathered → Grouped → Grouped
 then_grouped gathered g = followed_by gathered.closed gathered.last g
 
@@ -26,7 +26,7 @@ IsContinued old new line result = MatchResult result
 abbrev pub IsBegun : Gathered → Type 0
 IsBegun gathered = gathered.last ≡ None → gathered.closed ≡ []
 
--- whatever lines follow, the text has the logical lines that it has behind this one, or the fault
+-- whatever lines follow, the text has the logical lines that it has after this one, or the fault
 abbrev pub TakesLine : {E : Type 0} → Gathered → Gathered → Physical → Result E TextFault → Type 0
 TakesLine old new line result = MatchResult result
     (λ _. (g : Grouped) → then_grouped old (unless_ignored line g) ≡ then_grouped new g)

@@ -2,7 +2,7 @@
 use Rattle.std.specs.Prelude.{◌≡◌, ◌≤◌, ℕ, ◌-◌, ◌^◌, ◌==◌, Bool, true, false, List, [], ◌∷◌, Some, max, min, length, slice_index}
 use Rattle.std.specs.List.{list_any}
 use Rattle.pf_base.specs.Outside.Counts.{counted}
-use Rattle.pf_base.specs.Outside.Told.{Input, Output, Tree}
+use Rattle.pf_base.specs.Outside.Known.{Input, Output, Tree}
 use Rattle.pf_base.specs.declared.pair.Pair.{Pair}
 
 -- the numbers, from 1, of the calls that fail, how many calls were made, and how many of them failed
@@ -53,15 +53,15 @@ pub record MemoryFiles : Type 0 where
   pub reads : ℕ
   pub calls : Calls
 
--- what they tell
-abbrev pub source_told : MemorySource → Input
-source_told source = record { left = Some source.left; given = source.given; ends = source.ends; ended = source.ended; faults = source.calls.faults }
+-- what is known of them
+abbrev pub source_known : MemorySource → Input
+source_known source = record { left = Some source.left; given = source.given; ends = source.ends; ended = source.ended; faults = source.calls.faults }
 
-abbrev pub sink_told : MemorySink → Output
-sink_told sink = record { written = Some sink.written; faults = sink.calls.faults }
+abbrev pub sink_known : MemorySink → Output
+sink_known sink = record { written = Some sink.written; faults = sink.calls.faults }
 
-abbrev pub files_told : MemoryFiles → Tree
-files_told files = record { content = Some files.files; reads = files.reads; faults = files.calls.faults }
+abbrev pub files_known : MemoryFiles → Tree
+files_known files = record { content = Some files.files; reads = files.reads; faults = files.calls.faults }
 
 -- the most bytes of the read of this number: the sizes in turn, the last one repeated, none below 1; with no size no limit
 abbrev pub greatest_read : List ℕ → ℕ → ℕ

@@ -1,7 +1,7 @@
 -- The objects outside that a run is given, what is written to the sinks among them, and how a fault breaks that off. Words of contracts, by no
 -- standard; that the record of messages is written before the log and that before the output is postgate's own.
 use Rattle.std.specs.Prelude.{◌≡◌, ◌≢◌, ◌⊎◌, ℕ, List, [], ◌++◌, Result, Ok, Err, MatchResult}
-use Rattle.pf_base.specs.Outside.Told.{HoldsFront, Input, Output, Tree, failed_output, wrote}
+use Rattle.pf_base.specs.Outside.Known.{HoldsPrefix, Input, Output, Tree, failed_output, wrote}
 use Rattle.pf_base.specs.declared.fault.OuterFault.{OuterFault}
 use Rattle.pf_base.specs.declared.fault.OuterFault.TheVariants as outer
 use Rattle.pf_base.specs.declared.outside.status.TheConstants.{LOG_FAILED, MAIL_FAILED, NO_MEMORY, OUT_FAILED}
@@ -49,19 +49,19 @@ joined first second = record { out = first.out ++ second.out; mail = first.mail 
 abbrev pub appended : Sinks → Texts → Sinks
 appended old texts = record { out = wrote old.out texts.out; mail = wrote old.mail texts.mail; log = wrote old.log texts.log }
 
--- the record took a front of its text, and nothing else was written
+-- the record took a prefix of its text, and nothing else was written
 pub record InMail (old new : Sinks) (texts : Texts) : Type 0 where
-  pub mail : HoldsFront old.mail new.mail texts.mail
+  pub mail : HoldsPrefix old.mail new.mail texts.mail
   pub rest : new ≡ record old { mail = new.mail }
 
--- the record took its text, the log a front of its own, and the output nothing
+-- the record took its text, the log a prefix of its own, and the output nothing
 pub record InLog (old new : Sinks) (texts : Texts) : Type 0 where
-  pub log : HoldsFront old.log new.log texts.log
+  pub log : HoldsPrefix old.log new.log texts.log
   pub rest : new ≡ record old { mail = wrote old.mail texts.mail; log = new.log }
 
--- the record and the log took their texts, and the output a front of its own
+-- the record and the log took their texts, and the output a prefix of its own
 pub record InOut (old new : Sinks) (texts : Texts) : Type 0 where
-  pub out : HoldsFront old.out new.out texts.out
+  pub out : HoldsPrefix old.out new.out texts.out
   pub rest : new ≡ record { out = new.out; mail = wrote old.mail texts.mail; log = wrote old.log texts.log }
 
 -- a fault broke the writing off: a prefix of each text was written, of a later sink's nothing, and the fault of a sink, for which there is a text, was
@@ -82,7 +82,7 @@ blamed failed (Err outer.NoMemory) = Err fault.NoMemory
 abbrev pub Says : {T : Type 0} → Sinks → Sinks → Texts → Result T SinkFault → Type 0
 Says old new texts result = MatchResult result (λ _. new ≡ appended old texts) (λ fault. StopsBy fault old new texts)
 
--- the status of a sink's fault, and of want of memory
+-- the status of a sink's fault, and of lack of memory
 abbrev pub sink_status : SinkFault → ℕ
 sink_status fault.Out = OUT_FAILED
 sink_status fault.Mail = MAIL_FAILED

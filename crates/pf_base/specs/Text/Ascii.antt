@@ -117,6 +117,6 @@ left_brace = 123
 abbrev pub right_brace : ℕ
 right_brace = 125
 
--- the control byte behind `b'~'`
+-- the control byte after `b'~'`
 abbrev pub delete : ℕ
 delete = 127

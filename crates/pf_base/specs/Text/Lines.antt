@@ -11,14 +11,14 @@ is_feed b = b == ascii.line_feed
 abbrev pub parts : List ℕ → List (List ℕ)
 parts text = slice_split is_feed text
 
--- the lines of a text: its parts but the last, behind which no line feed stands
+-- the lines of a text: its parts but the last, after which no line feed is
 unfoldable pub lines : List ℕ → List (List ℕ)
 lines text = take (length (parts text) - 1) (parts text)
 
--- what stands behind the last line feed of a text
+-- what is after the last line feed of a text
 unfoldable pub rest : List ℕ → List ℕ
 rest text = after_last is_feed text
 
--- a line without the carriage return that stands before its end
+-- a line without the carriage return that is before its end
 abbrev pub without_return : List ℕ → List ℕ
 without_return line = if slice_index line (length line - 1) == ascii.carriage_return then take (length line - 1) line else line

@@ -1,5 +1,5 @@
 -- Logical lines (postconf(5), main.cf format; DATABASE_README): a line that starts with space continues the one before it; empty lines,
--- lines of space alone and lines whose first byte past space is # count for nothing. That they may stand inside a logical line is postgate's own.
+-- lines of space alone and lines whose first byte past space is # count for nothing. That they may be inside a logical line is postgate's own.
 use Rattle.std.specs.Prelude.{ℕ, ◌+◌, ◌++◌, ◌==◌, Bool, true, false, List, [], ◌∷◌, Result, Ok, Err, if◌then◌else◌}
 use Rattle.std.specs.List.{fold}
 use Rattle.pf_base.specs.Text.Ascii as ascii
@@ -9,7 +9,7 @@ use Rattle.pf_base.specs.declared.text.logical.Logical.{Logical}
 use Rattle.pf_base.specs.declared.text.logical.TextFault.{TextFault}
 use Rattle.pf_base.specs.declared.text.logical.TextFault.TheVariants.{Continuation}
 
--- a line as it stands in the file, with its number
+-- a line as it is in the file, with its number
 pub record Physical : Type 0 where
   pub number : ℕ
   pub text : List ℕ
@@ -45,12 +45,12 @@ alone line = record { line = line.number; last = line.number; text = line.text }
 abbrev pub continued : Logical → Physical → Logical
 continued logical line = record { line = logical.line; last = line.number; text = logical.text ++ line.text }
 
--- the lines that continue nothing, and the logical lines behind them
+-- the lines that continue nothing, and the logical lines after them
 pub record Grouped : Type 0 where
   pub leading : List Physical
   pub logical : List Logical
 
--- a line that counts, before those behind it
+-- a line that counts, before those after it
 abbrev pub with_line : Physical → Grouped → Grouped
 with_line line g =
     if starts_with_space line.text then record { leading = line ∷ g.leading; logical = g.logical }
@@ -60,7 +60,7 @@ with_line line g =
 abbrev pub unless_ignored : Physical → Grouped → Grouped
 unless_ignored line g = if is_ignored line.text then g else with_line line g
 
--- each line that doesn't start with space begins a logical line, and those behind it that do continue it
+-- each line that doesn't start with space begins a logical line, and those after it that do continue it
 abbrev pub grouped : List Physical → Grouped
 grouped [] = record { leading = []; logical = [] }
 grouped (line ∷ lines) = unless_ignored line (grouped lines)

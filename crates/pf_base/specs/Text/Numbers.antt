@@ -5,7 +5,7 @@ use Rattle.std.specs.List.{list_all}
 use Rattle.std.specs.Str.Parse.{digits_value}
 use Rattle.pf_base.specs.Text.Ascii as ascii
 
--- decimal digits, of which the first is 0 only where it stands alone
+-- decimal digits, of which the first is 0 only where it is alone
 abbrev pub is_decimal : List ℕ → Bool
 is_decimal text = list_all is_ascii_digit text && (length text == 1 || nat_lt 1 (length text) && not (slice_index text 0 == ascii.digit_zero))
 

@@ -11,7 +11,7 @@ use Rattle.pf_base.specs.declared.text.words.WordsFault.TheVariants.{Unbalanced}
 abbrev pub is_separator : ℕ → Bool
 is_separator b = is_space b || b == ascii.line_feed || b == ascii.comma
 
--- a text parted at its separators that stand in no brace, where so many braces are open in front of it
+-- a text parted at its separators that are in no brace, where so many braces are open before it
 abbrev pub parted : ℕ → List ℕ → List (List ℕ)
 parted depth [] = [] ∷ []
 parted depth (b ∷ text) =

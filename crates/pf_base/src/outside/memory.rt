@@ -4,7 +4,7 @@ ghost use Rattle.std.specs.List.{find, list_any, position};
 ghost use Rattle.std.specs.Option.{option_copied, option_map};
 ghost use Rattle.std.specs.Str.{bytes_eq};
 ghost use Rattle.std.specs.Io.{ReadsAtMost};
-ghost use Rattle.pf_base.specs.Outside.Told.{Looks, Reads, Replaces, Writes, read_once};
+ghost use Rattle.pf_base.specs.Outside.Known.{Looks, Reads, Replaces, Writes, read_once};
 
 use crate::bytes::Bytes;
 use crate::fault::{Failed, NoMemory, OuterFault};
@@ -64,8 +64,8 @@ impl Schedule {
     }
 }
 
-// Copies the front of what is left into the buffer, at most so many bytes, and says how many.
-fn copy_front(buf: &mut [u8], left: &[u8], greatest: usize) -> usize
+// Copies the prefix of what is left into the buffer, at most so many bytes, and says how many.
+fn copy_prefix(buf: &mut [u8], left: &[u8], greatest: usize) -> usize
     ensures count { result ≡ min (min (length left.now) (length buf.old)) greatest }
     ensures copied { take result buf.new ≡ take result left.now }
 {
@@ -108,7 +108,7 @@ impl MemSource {
     ghost use Rattle.pf_base.specs.Clauses.Memory.{greatest_read, none_made};
 
     /// These bytes. The first read gives at most as many bytes as the first of `cuts` says, the second as the second, and
-    /// each read behind the end of the list as its last; 0 stands for 1. Without `cuts` there is no such limit. `failing` are the numbers, from 1, of the reads that fail.
+    /// each read after the end of the list as its last; 0 stands for 1. Without `cuts` there is no such limit. `failing` are the numbers, from 1, of the reads that fail.
     pub fn new(bytes: Bytes, cuts: List<u64>, failing: List<u64>) -> MemSource
         ensures { result ≡ record { left = bytes; given = 0; ends = 0; ended = 0; cuts = cuts; calls = none_made failing } }
     {
@@ -141,13 +141,13 @@ impl MemSource {
 }
 
 impl Source for MemSource {
-    ghost use Rattle.pf_base.specs.Clauses.Memory.{MakesCall, bytes_read, fails_next, source_told};
+    ghost use Rattle.pf_base.specs.Clauses.Memory.{MakesCall, bytes_read, fails_next, source_known};
 
-    ghost told = { source_told };
+    ghost known = { source_known };
 
     fn read(&mut self, buf: &mut [u8]) -> Result<usize, Failed>
         ensures bound { ReadsAtMost result buf.new }
-        ensures bytes { Reads (source_told self.old) (source_told self.new) result buf.new }
+        ensures bytes { Reads (source_known self.old) (source_known self.new) result buf.new }
         ensures fails { is_err result ≡ fails_next self.old.calls }
         ensures count { IfOk result (λ n. n ≡ bytes_read self.old (length buf.new)) }
         ensures call { MakesCall self.old.calls self.new.calls }
@@ -161,7 +161,7 @@ impl Source for MemSource {
         }
         let greatest = self.greatest_read() as usize;
         let left = &self.bytes.as_slice()[self.at..];
-        let count = copy_front(buf, left, greatest);
+        let count = copy_prefix(buf, left, greatest);
         if count == 0 {
             self.ends = self.ends.saturating_add(1);
             self.ended = self.given;
@@ -210,12 +210,12 @@ impl MemSink {
 }
 
 impl Sink for MemSink {
-    ghost use Rattle.pf_base.specs.Clauses.Memory.{MakesCall, fails_next, sink_told};
+    ghost use Rattle.pf_base.specs.Clauses.Memory.{MakesCall, fails_next, sink_known};
 
-    ghost told = { sink_told };
+    ghost known = { sink_known };
 
     fn write(&mut self, piece: &[u8]) -> Result<(), OuterFault>
-        ensures bytes { Writes (sink_told self.old) (sink_told self.new) result piece.now }
+        ensures bytes { Writes (sink_known self.old) (sink_known self.new) result piece.now }
         ensures fails { (result ≡ Err OuterFault.Failed) ↔ (fails_next self.old.calls ≡ true) }
         ensures call { MakesCall self.old.calls self.new.calls }
     {
@@ -306,15 +306,15 @@ impl MemFiles {
 }
 
 impl Files for MemFiles {
-    ghost use Rattle.pf_base.specs.Clauses.Memory.{MakesCall, fails_next, files_told};
+    ghost use Rattle.pf_base.specs.Clauses.Memory.{MakesCall, fails_next, files_known};
     ghost use Rattle.pf_base.specs.Outside.FileList.{file_of, ReadsFrom};
     ghost use Rattle.pf_base.specs.declared.pair.Pair.{Pair};
 
-    ghost told = { files_told };
+    ghost known = { files_known };
 
     fn size(&mut self, name: &str) -> Result<Option<u64>, Failed>
-        ensures told { IfOk result (λ size. size ≡ option_map length (file_of self.old.files name.now)) }
-        ensures same { Looks (files_told self.old) (files_told self.new) result }
+        ensures known { IfOk result (λ size. size ≡ option_map length (file_of self.old.files name.now)) }
+        ensures same { Looks (files_known self.old) (files_known self.new) result }
         ensures fails { is_err result ≡ fails_next self.old.calls }
         ensures call { MakesCall self.old.calls self.new.calls }
     {
@@ -326,9 +326,9 @@ impl Files for MemFiles {
 
     fn read_at(&mut self, name: &str, at: u64, buf: &mut [u8]) -> Result<usize, Failed>
         ensures bound { ReadsAtMost result buf.new }
-        ensures told { IfOk result (λ n. ReadsFrom (unwrap_or (file_of self.old.files name.now) []) at n buf.new) }
+        ensures known { IfOk result (λ n. ReadsFrom (unwrap_or (file_of self.old.files name.now) []) at n buf.new) }
         ensures whole { IfOk result (λ n. n ≡ min (length (drop at (unwrap_or (file_of self.old.files name.now) []))) (length buf.old)) }
-        ensures same { Looks (read_once (files_told self.old)) (files_told self.new) result }
+        ensures same { Looks (read_once (files_known self.old)) (files_known self.new) result }
         ensures fails { is_err result ≡ fails_next self.old.calls }
         ensures call { MakesCall self.old.calls self.new.calls }
     {
@@ -342,11 +342,11 @@ impl Files for MemFiles {
         let bytes = pair.value.as_slice();
         let from = (at as usize).min(bytes.len());
         let left = &bytes[from..];
-        Ok(copy_front(buf, left, usize::MAX))
+        Ok(copy_prefix(buf, left, usize::MAX))
     }
 
     fn replace(&mut self, name: &str, bytes: &[u8]) -> Result<(), OuterFault>
-        ensures files { Replaces (files_told self.old) (files_told self.new) result name.now bytes.now }
+        ensures files { Replaces (files_known self.old) (files_known self.new) result name.now bytes.now }
         ensures fails { (result ≡ Err OuterFault.Failed) ↔ (fails_next self.old.calls ≡ true) }
         ensures call { MakesCall self.old.calls self.new.calls }
     {

@@ -2,7 +2,7 @@
 ghost use Rattle.std.specs.Prelude.{◌≡◌, ◌≢◌, ◌<◌, ◌≤◌, ◌+◌, List as Seq, [], Some, Ok, Err, length, take, unwrap_or, IfOk};
 ghost use Rattle.pf_base.specs.Outside.FileList.{file_of, whole_file};
 ghost use Rattle.pf_base.specs.Clauses.FileParts.{AddsPart};
-ghost use Rattle.pf_base.specs.Outside.Told.{ReadsWhole};
+ghost use Rattle.pf_base.specs.Outside.Known.{ReadsWhole};
 ghost use Rattle.pf_base.specs.declared.pair.Pair.{Pair};
 
 use crate::bytes::Bytes;
@@ -36,12 +36,12 @@ fn read_part<F: Files>(
     bytes: &mut Bytes,
 ) -> Result<usize, ReadFault>
     requires { length bytes.old < size }
-    ensures told { (all : Seq Pair) → (F.told files.old).content ≡ Some all →
+    ensures known { (all : Seq Pair) → (F.known files.old).content ≡ Some all →
         IfOk result (λ n. AddsPart (unwrap_or (file_of all name.now) []) bytes.old bytes.new n) }
     ensures count { IfOk result (λ n. length bytes.new ≡ length bytes.old + n) }
     ensures room { IfOk result (λ n. length bytes.old + n ≤ size) }
     ensures not_large { result ≢ Err ReadFault.TooLarge }
-    ensures tree { ReadsWhole (F.told files.old) (F.told files.new) result }
+    ensures tree { ReadsWhole (F.known files.old) (F.known files.new) result }
 {
     let mut buf = [0u8; 4096];
     let room = (size - bytes.len()).min(4096) as usize;
@@ -62,10 +62,10 @@ fn read_up_to<F: Files>(
     name: &str,
     size: u64,
 ) -> Result<Bytes, ReadFault>
-    ensures told { (all : Seq Pair) → (F.told files.old).content ≡ Some all →
+    ensures known { (all : Seq Pair) → (F.known files.old).content ≡ Some all →
         IfOk result (λ bytes. bytes ≡ take size (unwrap_or (file_of all name.now) [])) }
     ensures not_large { result ≢ Err ReadFault.TooLarge }
-    ensures tree { ReadsWhole (F.told files.old) (F.told files.new) result }
+    ensures tree { ReadsWhole (F.known files.old) (F.known files.new) result }
 {
     let mut bytes = Bytes::new(alloc);
     'parts: while bytes.len() < size {
@@ -83,11 +83,11 @@ pub fn read_all<F: Files>(
     files: &mut F,
     name: &str,
 ) -> Result<Option<Bytes>, ReadFault>
-    ensures told { (all : Seq Pair) → (F.told files.old).content ≡ Some all →
+    ensures known { (all : Seq Pair) → (F.known files.old).content ≡ Some all →
         IfOk result (λ found. whole_file (file_of all name.now) ≡ Ok found) }
-    ensures large { (all : Seq Pair) → (F.told files.old).content ≡ Some all →
+    ensures large { (all : Seq Pair) → (F.known files.old).content ≡ Some all →
         result ≡ Err ReadFault.TooLarge → whole_file (file_of all name.now) ≡ Err ReadFault.TooLarge }
-    ensures tree { ReadsWhole (F.told files.old) (F.told files.new) result }
+    ensures tree { ReadsWhole (F.known files.old) (F.known files.new) result }
 {
     match files.size(name) {
         Err(Failed) => Err(ReadFault::Failed),

@@ -2,7 +2,7 @@
 ghost use Rattle.std.specs.Prelude.{◌≡◌, [], IsOk};
 ghost use Rattle.pf_base.specs.Outside.Objects as spec;
 ghost use Rattle.pf_base.specs.Outside.Objects.{Says, log_text, out_text, sink_status, sinks, status_of};
-ghost use Rattle.pf_base.specs.Outside.Told.{Output, Writes};
+ghost use Rattle.pf_base.specs.Outside.Known.{Output, Writes};
 
 use crate::bytes::Bytes;
 use crate::fault::OuterFault;
@@ -70,8 +70,8 @@ pub fn status_behind(status: u8, said: Result<(), SinkFault>) -> u8
 
 /// Writes a text, unless it is empty.
 pub fn write_some<S: Sink>(sink: &mut S, text: &[u8]) -> Result<(), OuterFault>
-    ensures bytes { Writes (S.told sink.old) (S.told sink.new) result text.now }
-    ensures nothing { text.now ≡ [] → IsOk result × (S.told sink.new ≡ S.told sink.old) }
+    ensures bytes { Writes (S.known sink.old) (S.known sink.new) result text.now }
+    ensures nothing { text.now ≡ [] → IsOk result × (S.known sink.new ≡ S.known sink.old) }
 {
     if text.is_empty() {
         return Ok(());
@@ -92,16 +92,16 @@ fn blamed(failed: SinkFault, written: Result<(), OuterFault>) -> Result<(), Sink
 
 /// Writes a line to the log, unless it is empty.
 pub fn write_log<J: Sink>(log: &mut J, line: &[u8]) -> Result<(), SinkFault>
-    ensures says { (out mail : Output) → Says (sinks out mail (J.told log.old)) (sinks out mail (J.told log.new)) (log_text line.now) result }
-    ensures nothing { line.now ≡ [] → IsOk result × (J.told log.new ≡ J.told log.old) }
+    ensures says { (out mail : Output) → Says (sinks out mail (J.known log.old)) (sinks out mail (J.known log.new)) (log_text line.now) result }
+    ensures nothing { line.now ≡ [] → IsOk result × (J.known log.new ≡ J.known log.old) }
 {
     blamed(SinkFault::Log, write_some(log, line))
 }
 
 /// Writes a text to the output, unless it is empty.
 pub fn write_out<O: Sink>(out: &mut O, text: &[u8]) -> Result<(), SinkFault>
-    ensures says { (mail log : Output) → Says (sinks (O.told out.old) mail log) (sinks (O.told out.new) mail log) (out_text text.now) result }
-    ensures nothing { text.now ≡ [] → IsOk result × (O.told out.new ≡ O.told out.old) }
+    ensures says { (mail log : Output) → Says (sinks (O.known out.old) mail log) (sinks (O.known out.new) mail log) (out_text text.now) result }
+    ensures nothing { text.now ≡ [] → IsOk result × (O.known out.new ≡ O.known out.old) }
 {
     blamed(SinkFault::Out, write_some(out, text))
 }
@@ -114,7 +114,7 @@ pub fn write_texts<O: Sink, M: Sink, J: Sink>(
     mail: &mut M,
     log: &mut J,
 ) -> Result<(), SinkFault>
-    ensures { Says (sinks (O.told out.old) (M.told mail.old) (J.told log.old)) (sinks (O.told out.new) (M.told mail.new) (J.told log.new)) texts.now result }
+    ensures { Says (sinks (O.known out.old) (M.known mail.old) (J.known log.old)) (sinks (O.known out.new) (M.known mail.new) (J.known log.new)) texts.now result }
 {
     blamed(SinkFault::Mail, write_some(mail, texts.mail.as_slice()))?;
     blamed(SinkFault::Log, write_some(log, texts.log.as_slice()))?;

@@ -2,7 +2,7 @@
 ghost use Rattle.std.specs.Prelude.{◌≡◌, ◌<◌, ◌-◌, ◌^◌, length, IfSome};
 ghost use Rattle.pf_base.specs.Text.Braces as braces;
 
-// How many braces are open behind a byte, where so many are open in front of it.
+// How many braces are open after a byte, where so many are open before it.
 pub(crate) fn open_behind(depth: usize, b: u8) -> usize
     requires { depth < 2 ^ 64 - 1 }
     ensures { result ≡ braces.open_behind depth b }
@@ -14,7 +14,7 @@ pub(crate) fn open_behind(depth: usize, b: u8) -> usize
     }
 }
 
-/// Where the brace ends that was opened in front of a text: the place, from 0, of its partner; None where it has none
+/// Where the brace ends that was opened before a text: the place, from 0, of its partner; None where it has none
 /// (postconf(5), main.cf format).
 pub fn closing_brace(text: &[u8]) -> Option<usize>
     ensures within { IfSome result (λ n. n < length text.now) }

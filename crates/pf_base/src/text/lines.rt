@@ -5,7 +5,7 @@ ghost use Rattle.pf_base.specs.Text.Lines.{rest};
 
 use memchr::memchr;
 
-/// The first line without its line feed, and what stands behind that; None where no line ends (RFC 5321, 2.3.8, with bare
+/// The first line without its line feed, and what is after that; None where no line ends (RFC 5321, 2.3.8, with bare
 /// line feeds taken as line ends).
 pub fn first_line(bytes: &[u8]) -> Option<(&[u8], &[u8])>
     ensures none { IfNone result (lines.lines bytes.now ≡ []) }
@@ -21,12 +21,12 @@ pub fn first_line(bytes: &[u8]) -> Option<(&[u8], &[u8])>
     }
 }
 
-/// A line without the carriage return that stands before its end (RFC 5321, 2.3.8).
+/// A line without the carriage return that is before its end (RFC 5321, 2.3.8).
 pub fn without_return(line: &[u8]) -> &[u8]
     ensures { result.now ≡ lines.without_return line.now }
 {
     match line {
-        [front @ .., b'\r'] => front,
+        [prefix @ .., b'\r'] => prefix,
         _ => line,
     }
 }

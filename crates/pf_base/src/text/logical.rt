@@ -124,7 +124,7 @@ impl Gathered {
         }
     }
 
-    // Takes a physical line as it stands before its line end.
+    // Takes a physical line as it is before its line end.
     fn take_line(&mut self, alloc: Global, number: u64, line: &[u8]) -> Result<(), TextFault>
         ensures line { Unless result TextFault.NoMemory (TakesLine self.old self.new (record { number = number; text = without_return line.now })) }
         ensures begun { IsBegun self.old → OnOk result (IsBegun self.new) }

@@ -29,7 +29,7 @@ fn is_separator(b: u8) -> bool
     is_space(b) || b == b'\n' || b == b','
 }
 
-// Where the first separator stands that is in no brace, or the length where there is none.
+// Where the first separator is that is in no brace, or the length where there is none.
 fn separator_place(text: &[u8]) -> usize
     ensures within { result ≤ length text.now }
     ensures none { result ≡ length text.now → spec.parted 0 text.now ≡ text.now ∷ [] }
@@ -45,7 +45,7 @@ fn separator_place(text: &[u8]) -> usize
     text.len()
 }
 
-// What stands before and behind the first separator that is in no brace; None where there is none.
+// What is before and after the first separator that is in no brace; None where there is none.
 fn cut_at_separator(text: &[u8]) -> Option<(&[u8], &[u8])>
     ensures none { IfNone result (spec.parted 0 text.now ≡ text.now ∷ []) }
     ensures parts { IfSome result (λ cut. spec.parted 0 text.now ≡ cut.0.now ∷ spec.parted 0 cut.1.now) }
@@ -88,7 +88,7 @@ fn words_in(alloc: Global, value: &[u8]) -> Result<List<Bytes>, NoMemory>
     }
 }
 
-/// The words of a value, which spaces, line feeds and commas part that stand in no brace (postconf(5)). Where a brace has
+/// The words of a value, which spaces, line feeds and commas part that are in no brace (postconf(5)). Where a brace has
 /// no partner the value has none, and the first such brace is named.
 #[tactic(auto, unfolding(crate::specs::Text::Words::words_of))]
 pub fn words_of(alloc: Global, value: &[u8]) -> Result<List<Bytes>, WordsFault>

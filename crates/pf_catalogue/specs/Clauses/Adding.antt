@@ -9,7 +9,7 @@ pub record AddsUpTo (line : ℕ) (old new : TableTexts) (texts left : List (List
   pub parts : texts ≡ added ++ left
   pub is : new ≡ with_texts line old added
 
--- a front of the texts was added
-pub record AddsFront (line : ℕ) (old new : TableTexts) (texts : List (List ℕ)) : Type 0 where
+-- a prefix of the texts was added
+pub record AddsPrefix (line : ℕ) (old new : TableTexts) (texts : List (List ℕ)) : Type 0 where
   pub left : List (List ℕ)
   pub adds : AddsUpTo line old new texts left

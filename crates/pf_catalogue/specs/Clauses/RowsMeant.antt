@@ -5,4 +5,4 @@ use Rattle.pf_catalogue.specs.declared.catalogue.Row.{Row}
 
 -- its texts
 abbrev pub row_meant : Row → catalogue.Row
-row_meant r = record { name = r.0.now; kind = r.1; preset = meant r.2 }
+row_meant r = record { name = r.0.now; kind = r.1; default_value = meant r.2 }

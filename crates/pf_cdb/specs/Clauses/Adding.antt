@@ -10,11 +10,11 @@ abbrev pub pairs_at : List ℕ → List Slot → List Pair
 pairs_at file slots = map (pair_at file) (map (λ slot. slot.at) slots)
 
 -- room for a header, and the records of some pairs
-unfoldable pub front_of : List Pair → List ℕ
-front_of pairs = replicate 2048 0 ++ flat_map record_bytes pairs
+unfoldable pub prefix_of : List Pair → List ℕ
+prefix_of pairs = replicate 2048 0 ++ flat_map record_bytes pairs
 
--- the file has room for a header and records, these are their slots, and the tables for them have room behind the records
-pub record IsFront (file : List ℕ) (slots : List Slot) : Type 0 where
-  pub bytes : file ≡ front_of (pairs_at file slots)
+-- the file has room for a header and records, these are their slots, and the tables for them have room after the records
+pub record IsPrefix (file : List ℕ) (slots : List Slot) : Type 0 where
+  pub bytes : file ≡ prefix_of (pairs_at file slots)
   pub all : slots ≡ placed 2048 (pairs_at file slots)
   pub fits : length file + 16 * length slots ≤ 67108864

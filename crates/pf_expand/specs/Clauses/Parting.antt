@@ -34,7 +34,7 @@ one_weighs left.End = 1
 abbrev pub weighs : List Left → ℕ
 weighs things = sum_by one_weighs things
 
--- a text was taken in front of what was left: its first part is a piece now, and the others are left, with less work; or it has a dollar sign
+-- a text was taken before what was left: its first part is a piece now, and the others are left, with less work; or it has a dollar sign
 -- that begins no form
 pub record Takes (old_tokens new_tokens : List Token) (old new : List Left) (text : List ℕ) (taken : Bool) : Type 0 where
   pub gives : option_map (λ ts. old_tokens ++ ts) (before (tokens_of text) (gives old)) ≡ (if taken then option_map (λ ts. new_tokens ++ ts) (gives new) else None)

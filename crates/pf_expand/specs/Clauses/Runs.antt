@@ -25,13 +25,13 @@ added values Counts token = counted values token
 added values (ToOtherwise n) token = Ok []
 added values (ToEnd n) token = Ok []
 
--- which pieces count behind the name of a choice: those of its second text, of its first text, or of none
+-- which pieces count after the name of a choice: those of its second text, of its first text, or of none
 abbrev pub behind_choice : Answer → Mode
 behind_choice (Ok []) = ToOtherwise 0
 behind_choice (Ok (b ∷ bytes)) = Counts
 behind_choice (Err flaw) = ToEnd 0
 
--- behind a piece of a first text that is passed over, with so many choices open in it
+-- after a piece of a first text that is passed over, with so many choices open in it
 abbrev pub behind_first : ℕ → Token → Mode
 behind_first n (Literal bytes) = ToOtherwise n
 behind_first n (Name name) = ToOtherwise n
@@ -39,7 +39,7 @@ behind_first n (Choose name) = ToOtherwise (n + 1)
 behind_first n Otherwise = if n == 0 then Counts else ToOtherwise n
 behind_first n End = ToOtherwise (n - 1)
 
--- behind a piece that is passed over up to the end of the choice
+-- after a piece that is passed over up to the end of the choice
 abbrev pub behind_second : ℕ → Token → Mode
 behind_second n (Literal bytes) = ToEnd n
 behind_second n (Name name) = ToEnd n
@@ -47,7 +47,7 @@ behind_second n (Choose name) = ToEnd (n + 1)
 behind_second n Otherwise = ToEnd n
 behind_second n End = if n == 0 then Counts else ToEnd (n - 1)
 
--- behind any piece, where this stands behind the name of a choice
+-- after any piece, where this is after the name of a choice
 abbrev pub behind : Mode → Mode → Token → Mode
 behind choice Counts (Literal bytes) = Counts
 behind choice Counts (Name name) = Counts

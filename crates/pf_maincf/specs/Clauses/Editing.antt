@@ -8,7 +8,7 @@ use Rattle.pf_maincf.specs.declared.setting.Setting.{Setting}
 abbrev pub set_from : List Setting → Option Setting → ℕ → List ℕ → Option Setting
 set_from sets set number line = if begins_logical line then set_at sets number else set
 
--- what the first line of a logical line leaves, and one behind it
+-- what the first line of a logical line leaves, and one after it
 abbrev pub first_left : Option Setting → Line → List ℕ
 first_left None line = standing line
 first_left (Some set) line = set_line set
@@ -19,6 +19,6 @@ behind_left set line = if is_some set && not (counts_for_nothing line.text) then
 abbrev pub line_left : Option Setting → Line → List ℕ
 line_left set line = if begins_logical line.text then first_left set line else behind_left set line
 
--- what lines leave that stand behind one with this set
+-- what lines leave that are after one with this set
 abbrev pub blocks_left : List Setting → Option Setting → Blocks → List ℕ
-blocks_left sets set b = flat_map (behind_left set) b.front ++ flat_map (edited_block sets) b.blocks
+blocks_left sets set b = flat_map (behind_left set) b.prefix ++ flat_map (edited_block sets) b.blocks

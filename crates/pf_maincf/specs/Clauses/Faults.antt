@@ -11,7 +11,7 @@ abbrev pub as_fault : {A : Type 0} → Result A Refused → Result A ConfFault
 as_fault (Ok x) = Ok x
 as_fault (Err refusal) = Err (conf_fault.Refused refusal)
 
--- an answer of the code is what is said; a failed call on the files and want of memory are free
+-- an answer of the code is what is said; a failed call on the files and lack of memory are free
 abbrev pub Answers : {A : Type 0} → Result A Refused → Result A FileFault → Type 0
 Answers answer (Ok said) = answer ≡ Ok said
 Answers answer (Err (file_fault.Refused refusal)) = answer ≡ Err refusal

@@ -2,9 +2,9 @@
 use Rattle.std.specs.Prelude.{◌++◌, Bool, true, false, List, Option, None, Some}
 use Rattle.std.specs.Option.{option_map}
 
--- a list with more behind it, if there is more
+-- a list with more after it, if there is more
 abbrev pub behind : {A : Type 0} → List A → Option (List A) → Option (List A)
-behind front more = option_map (λ xs. front ++ xs) more
+behind prefix more = option_map (λ xs. prefix ++ xs) more
 
 -- this, where it is so
 abbrev pub when : {A : Type 0} → Bool → A → Option A

@@ -1,6 +1,6 @@
 -- What a call leaves of the files that opens tables. Words of contracts, by no standard.
 use Rattle.std.specs.Prelude.{◌≡◌, List, Some, Result, Ok, Err}
-use Rattle.pf_base.specs.Outside.Told.{Tree, failed_tree}
+use Rattle.pf_base.specs.Outside.Known.{Tree, failed_tree}
 use Rattle.pf_base.specs.declared.pair.Pair.{Pair}
 use Rattle.pf_base.specs.declared.refused.ConfFault.{ConfFault}
 use Rattle.pf_base.specs.declared.refused.ConfFault.TheVariants as conf_fault
@@ -18,7 +18,7 @@ abbrev pub held_as : {A : Type 0} → Result A ConfFault → Result A OpenFault
 held_as (Ok opened) = Ok opened
 held_as (Err fault) = Err (fault_of fault)
 
--- an answer is what is said; a failed read and want of memory are free
+-- an answer is what is said; a failed read and lack of memory are free
 abbrev pub Says : {A : Type 0} → Result A Refused → Result A OpenFault → Type 0
 Says answer (Ok opened) = answer ≡ Ok opened
 Says answer (Err (open_fault.Refused refusal)) = answer ≡ Err refusal
@@ -38,5 +38,5 @@ Leaves before now (Err open_fault.NoMemory) = Kept before now
 
 -- files that tell were opened as they say
 pub record Opens {A : Type 0} (before now : Tree) (says : List Pair → Result A Refused) (result : Result A OpenFault) : Type 0 where
-  pub told : (files : List Pair) → before.content ≡ Some files → Says (says files) result
+  pub known : (files : List Pair) → before.content ≡ Some files → Says (says files) result
   pub leaves : Leaves before now result

@@ -22,7 +22,7 @@ meaning_in (Some nodes) = meaning_of nodes
 abbrev pub values_of : List (List Node) → Values
 values_of tables id = meaning_in (slice_get tables id)
 
--- what contracts see of them: they stand in memory, so that no lookup fails from outside
+-- what contracts see of them: they are in memory, so that no lookup fails from outside
 abbrev pub seen : OpenTables → Tables
 seen open_tables = record {
   held = record { content = Some (values_of open_tables.tables); faults = 0 };

@@ -10,9 +10,9 @@ use Rattle.pf_params.specs.declared.readings.Reading.{Reading}
 
 -- readings before others
 abbrev pub before : List Reading → Result (List Reading) Refused → Result (List Reading) Refused
-before front answer = do
+before prefix answer = do
   readings ← answer
-  Ok (front ++ readings)
+  Ok (prefix ++ readings)
 
 -- what is read of these parameters in order, or the first refusal
 abbrev pub readings_of : Conf → List Row → Result (List Reading) Refused

@@ -1,6 +1,6 @@
 -- What the code gathers before it writes. Words of the code's contracts.
 use Rattle.std.specs.Prelude.{◌≡◌, ◌⊎◌, ℕ, List, Result, Ok, Err}
-use Rattle.pf_base.specs.Outside.Told.{Tree}
+use Rattle.pf_base.specs.Outside.Known.{Tree}
 use Rattle.pf_base.specs.declared.refused.Refused.{Refused}
 use Rattle.pf_maincf.specs.File.{conf_name}
 use Rattle.pf_tools.specs.Course.{Course, Courses, Leaves, course_status, texts_of}
@@ -17,7 +17,7 @@ pub record Reports (words : ConfWords) (before now : Tree) (report : Report) : T
   pub courses : Courses words before now
   pub report_is : report ≡ report_of (conf_name words.folder) courses.course
 
--- a report is that of an edited text, which stands in the place of the file or could not be put there
+-- a report is that of an edited text, which is in the place of the file or could not be put there
 abbrev pub IsEditReport : List ℕ → List ℕ → Tree → Tree → Report → Type 0
 IsEditReport file text before now report =
     ((report ≡ report_of file (course.edits text)) × Leaves file (course.edits text) before now)

@@ -2,17 +2,17 @@
 use Rattle.std.specs.Prelude.{◌≡◌, ℕ, ◌<◌, ◌≤◌, true, false, List, Result, Ok, Err, length}
 use Rattle.std.specs.Io.KnownBytes.{IsAtEnd}
 use Rattle.pf_base.specs.Outside.Objects.{Streams, StopsBy}
-use Rattle.pf_base.specs.Outside.Told.{Takes, failed_input, found_end}
+use Rattle.pf_base.specs.Outside.Known.{Takes, failed_input, found_end}
 use Rattle.pf_base.specs.declared.outside.texts.SinkFault.{SinkFault}
 use Rattle.pf_smtp.specs.Clauses.Feeding.{Took, given, texts_given}
 use Rattle.pf_smtp.specs.declared.progress.Progress.{Progress}
-use Rattle.pf_top.specs.Talk.{Speech}
-use Rattle.pf_top.specs.declared.talk.TalkFault.{TalkFault}
-use Rattle.pf_top.specs.declared.talk.TalkFault.TheVariants as fault
-use Rattle.pf_top.specs.declared.talk.Turn.{Turn}
-use Rattle.pf_top.specs.declared.talk.Turn.TheVariants as turn
+use Rattle.pf_top.specs.SessionLoop.{Speech}
+use Rattle.pf_top.specs.declared.session_loop.LoopFault.{LoopFault}
+use Rattle.pf_top.specs.declared.session_loop.LoopFault.TheVariants as fault
+use Rattle.pf_top.specs.declared.session_loop.Turn.{Turn}
+use Rattle.pf_top.specs.declared.session_loop.Turn.TheVariants as turn
 
--- what is said from where a session stands
+-- what is said from where a session is
 abbrev pub speech_from : Progress → Speech
 speech_from progress = record { said = λ taken. texts_given progress taken; over = λ taken. (given progress taken).next.ended }
 
@@ -31,7 +31,7 @@ pub record Stops (before now : Streams) (old : Progress) (most : ℕ) (why : Sin
   pub stops : StopsBy why before.sinks now.sinks (texts_given old piece)
 
 -- a read of at most so many bytes, and what the session made of it
-abbrev pub IsTurn : Streams → Streams → Progress → Progress → ℕ → Result Turn TalkFault → Type 0
+abbrev pub IsTurn : Streams → Streams → Progress → Progress → ℕ → Result Turn LoopFault → Type 0
 IsTurn before now old new most (Ok turn.End) = (now ≡ record before { input = found_end before.input }) × (new ≡ old) × IsAtEnd before.input.left
 IsTurn before now old new most (Ok (turn.More count)) = Passed before now old new count × (0 < count) × (count ≤ most) × (new.state.ended ≡ false)
 IsTurn before now old new most (Ok (turn.Over count)) = Passed before now old new count × (count ≤ most) × (new.state.ended ≡ true)

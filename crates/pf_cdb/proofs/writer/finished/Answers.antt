@@ -8,8 +8,8 @@ add_header-requires c =
     let tables = ap slot_lists c.as_slice.ensures.value ∙ c.in_ok-tables.ensures in
     let fit = tables_fit c.args.file c.args.slots.now _ c.requires tables in omega (arith, fit, c.len.ensures)
 
-pub put_front-requires : goal.put_front-requires
-put_front-requires c =
+pub put_prefix-requires : goal.put_prefix-requires
+put_prefix-requires c =
     let tables = ap slot_lists c.as_slice.ensures.value ∙ c.in_ok-tables.ensures in
     let size = header_size c.args.slots.now _ _ _ _ tables c.new-header.ensures c.in_ok-add_header.ensures in
     let fits = header_fits c.args.file c.args.slots.now _ c.requires size in omega (arith, fits, ap length c.as_slice-2.ensures)
@@ -19,4 +19,4 @@ returns c =
     let tables = ap slot_lists c.as_slice.ensures.value ∙ c.in_ok-tables.ensures in
     let again = ap slot_lists c.as_slice-3.ensures.value ∙ c.in_ok-tables.ensures in
     finished_is c.args.file c.args.slots.now _ _ _ _ _ _ _ _ c.requires tables again c.len.ensures c.new-header.ensures c.in_ok-add_header.ensures
-    c.as_slice-2.ensures c.put_front.ensures c.in_ok-add_tables.ensures
+    c.as_slice-2.ensures c.put_prefix.ensures c.in_ok-add_tables.ensures

@@ -2,11 +2,11 @@ use Rattle.std.proofs.Common.{◌≡◌, Decides, refl, sym, ap, ◌∙◌}
 use Rattle.std.proofs.lemmas.Bool.Decides.{Decides-eqb}
 use Rattle.std.proofs.lemmas.Slice.Eq.{slice_eq-Decides}
 use Rattle.pf_expand.specs.contracts.flaw.FlawPartialEq.TheImpl as flaw
-use Rattle.pf_expand.specs.contracts.shape.ShapePartialEq.TheImpl as shape
+use Rattle.pf_expand.specs.contracts.size.SizePartialEq.TheImpl as size
 use Rattle.pf_expand.specs.declared.flaw.Flaw.{Flaw}
 use Rattle.pf_expand.specs.declared.flaw.Flaw.TheVariants.{BadForm, TooDeep, TooLong}
-use Rattle.pf_expand.specs.declared.shape.Shape.{Shape}
-use Rattle.pf_expand.specs.declared.shape.Shape.TheVariants.{Long, Flawed}
+use Rattle.pf_expand.specs.declared.size.Size.{Size}
+use Rattle.pf_expand.specs.declared.size.Size.TheVariants.{Long, Flawed}
 use Rattle.pf_expand.proofs.rounds.are_same.Goals as goal
 
 -- a test by `==`
@@ -21,14 +21,14 @@ flaw_test TooLong BadForm = (λ e. cc, λ e. cc)
 flaw_test TooLong TooDeep = (λ e. cc, λ e. cc)
 flaw_test TooLong TooLong = (λ _. refl, λ _. refl)
 
-shape_test : (a b : Shape) → Decides (shape.eq-value.it a b) (a ≡ b)
-shape_test (Long a) (Long b) = (λ e. ap Long ((Decides-eqb a b).0 e), λ e. (Decides-eqb a b).1 (cc))
-shape_test (Long a) (Flawed b) = (λ e. cc, λ e. cc)
-shape_test (Flawed a) (Long b) = (λ e. cc, λ e. cc)
-shape_test (Flawed a) (Flawed b) = (λ e. ap Flawed ((flaw_test a b).0 e), λ e. (flaw_test a b).1 (cc))
+size_test : (a b : Size) → Decides (size.eq-value.it a b) (a ≡ b)
+size_test (Long a) (Long b) = (λ e. ap Long ((Decides-eqb a b).0 e), λ e. (Decides-eqb a b).1 (cc))
+size_test (Long a) (Flawed b) = (λ e. cc, λ e. cc)
+size_test (Flawed a) (Long b) = (λ e. cc, λ e. cc)
+size_test (Flawed a) (Flawed b) = (λ e. ap Flawed ((flaw_test a b).0 e), λ e. (flaw_test a b).1 (cc))
 
 pub returns-then-eq : goal.returns-then-eq
 returns-then-eq c =
-    let absent = (shape_test c.args.first.now.absent c.args.second.now.absent).0 (sym c.eq.ensures ∙ c.if-eq.true) in
-    let named = slice_eq-Decides shape_test _ _ _ (rw (c.as_slice.ensures, c.as_slice-then-eq.ensures) at c.eq-then-eq.ensures) in
+    let absent = (size_test c.args.first.now.absent c.args.second.now.absent).0 (sym c.eq.ensures ∙ c.if-eq.true) in
+    let named = slice_eq-Decides size_test _ _ _ (rw (c.as_slice.ensures, c.as_slice-then-eq.ensures) at c.eq-then-eq.ensures) in
     (λ is. (named.0 is, absent), λ same. named.1 same.0)

@@ -11,14 +11,14 @@ write_name-returns-then-levels-eq0 t c = absurd (zero_there c.args.names.now c.a
 
 pub write_name-returns-then-is_nothing : goal.write_name-returns-then-is_nothing
 write_name-returns-then-is_nothing t c =
-    rw (empty_there c.args.names.now c.args.shapes.now c.args.levels c.args.name.now c.requires.shapes c.requires.levels c.requires.there
-    (sym c.shape_named.ensures ∙ c.is_nothing.ensures c.if-is_nothing.true)) (sym (append-nil c.args.out.now))
+    rw (empty_there c.args.names.now c.args.sizes.now c.args.levels c.args.name.now c.requires.sizes c.requires.levels c.requires.there
+    (sym c.size_named.ensures ∙ c.is_nothing.ensures c.if-is_nothing.true)) (sym (append-nil c.args.out.now))
 
 pub write_name-write_meaning-requires : goal.write_name-write_meaning-requires
 write_name-write_meaning-requires t c = (
   omega (arith, c.decreases, c.if-levels-eq0.false),
   (
-    c.requires.shapes,
+    c.requires.sizes,
     (
       omega (arith, c.requires.levels),
       rw (one_less c.args.levels c.if-levels-eq0.false) c.requires.there,
@@ -41,7 +41,7 @@ pub write_meaning-write_pieces-requires : goal.write_meaning-write_pieces-requir
 write_meaning-write_pieces-requires t c = (
   omega (arith, c.decreases),
   (
-    c.requires.shapes,
+    c.requires.sizes,
     (
       c.requires.levels,
       rw c.as_slice.ensures
@@ -55,7 +55,7 @@ pub write_meaning-write_domain-requires : goal.write_meaning-write_domain-requir
 write_meaning-write_domain-requires t c = (
   omega (arith, c.decreases),
   (
-    c.requires.shapes,
+    c.requires.sizes,
     (
       c.requires.levels,
       host_there _ (ap is_ok (sym (domain_there c.args.names.now c.args.levels c.args.name.now c.in-Some-DomainOf.host (sym (rw (c.in-Some-DomainOf.is, c.in-Some-DomainOf.field-0-is) at c.get.ensures))))
@@ -78,7 +78,7 @@ write_meaning-returns-in-Some-DomainOf t c =
 
 pub write_pieces-loop-token-preserved : goal.write_pieces-loop-token-preserved
 write_pieces-loop-token-preserved t c =
-    wrote_more c.args.names.now c.args.shapes.now c.args.levels c.args.tokens.now c.loop-token.token-index c.loop-token.mode c.behind-mode.result c.token-item.result
+    wrote_more c.args.names.now c.args.sizes.now c.args.levels c.args.tokens.now c.loop-token.token-index c.loop-token.mode c.behind-mode.result c.token-item.result
     (c.args.out.now ++ content (run (level_value c.args.names.now c.args.levels) Counts c.args.tokens.now)) c.loop-token.out c.write_piece.new.out
-    c.requires.shapes c.requires.levels (omega arith) c.token-item.is c.loop-token.invariant.0 c.loop-token.invariant.1 c.loop-token.invariant.2
+    c.requires.sizes c.requires.levels (omega arith) c.token-item.is c.loop-token.invariant.0 c.loop-token.invariant.1 c.loop-token.invariant.2
     c.in_ok-write_piece.ensures (rw c.choice_behind.ensures at c.behind-mode.ensures)

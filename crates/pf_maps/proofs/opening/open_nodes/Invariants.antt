@@ -5,5 +5,5 @@ use Rattle.pf_maps.proofs.opening.open_nodes.Given as goal
 
 abbrev pub invariant-loop-node : goal.invariant-loop-node
 invariant-loop-node g l =
-    OpensUpTo (g.F.Files.told l.initial.files) (g.F.Files.told l.files) (λ all. nodes_opened all l.place l.folded l.nodes)
+    OpensUpTo (g.F.Files.known l.initial.files) (g.F.Files.known l.files) (λ all. nodes_opened all l.place l.folded l.nodes)
     (λ all. nodes_opened all l.place l.folded (drop l.node-index l.nodes)) l.opened

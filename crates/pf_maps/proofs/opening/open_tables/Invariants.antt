@@ -5,5 +5,5 @@ use Rattle.pf_maps.proofs.opening.open_tables.Given as goal
 
 abbrev pub invariant-loop-place : goal.invariant-loop-place
 invariant-loop-place g l =
-    OpensUpTo (g.F.Files.told l.initial.files) (g.F.Files.told l.files) (λ all. tables_opened all l.folded l.specs)
+    OpensUpTo (g.F.Files.known l.initial.files) (g.F.Files.known l.files) (λ all. tables_opened all l.folded l.specs)
     (λ all. texts_opened all l.folded l.specs.file (drop l.place l.specs.texts)) l.tables

@@ -7,20 +7,20 @@ use Rattle.pf_maps.proofs.opening.table_text.Goals as goal
 
 pub returns-in_default : goal.returns-in_default
 returns-in_default g c =
-    rw c.of.ensures (opens_refused (g.F.Files.told c.args.files.now) (g.F.Files.told c.args.files.now) (λ all. table_text all c.args.place.now c.args.name.now)
-    (refused c.args.place.now.file c.args.place.now.line C10 c.args.name.now) c.refused.result (kept_none (g.F.Files.told c.args.files.now))
-    (rw c.as_slice.ensures at c.refused.ensures) (λ all told. no_name all c.args.place.now c.args.name.now c.in_default.ensures.cases.0))
+    rw c.of.ensures (opens_refused (g.F.Files.known c.args.files.now) (g.F.Files.known c.args.files.now) (λ all. table_text all c.args.place.now c.args.name.now)
+    (refused c.args.place.now.file c.args.place.now.line C10 c.args.name.now) c.refused.result (kept_none (g.F.Files.known c.args.files.now))
+    (rw c.as_slice.ensures at c.refused.ensures) (λ all known. no_name all c.args.place.now c.args.name.now c.in_default.ensures.cases.0))
 
 pub returns-in-Ok-Some : goal.returns-in-Ok-Some
 returns-in-Ok-Some g c =
-    rw c.in-Ok-Some.bytes-is (opens_text (g.F.Files.told c.args.files.now) (g.F.Files.told c.read_all.new.files) c.args.place.now c.args.name.now c.in-Ok-Some.field-0 c.in-Ok-Some.bytes
-    c.in-Ok.ensures.cases.1 c.in-Ok-Some.field-0-is (λ all told. rw c.in-Ok.ensures.cases.0 at (c.in-Ok-Some.ensures.told all told))
+    rw c.in-Ok-Some.bytes-is (opens_text (g.F.Files.known c.args.files.now) (g.F.Files.known c.read_all.new.files) c.args.place.now c.args.name.now c.in-Ok-Some.field-0 c.in-Ok-Some.bytes
+    c.in-Ok.ensures.cases.1 c.in-Ok-Some.field-0-is (λ all known. rw c.in-Ok.ensures.cases.0 at (c.in-Ok-Some.ensures.known all known))
     c.in-Ok-Some.ensures.tree.same c.in-Ok-Some.ensures.tree.kept)
 
 pub returns-in-Err-TooLarge : goal.returns-in-Err-TooLarge
 returns-in-Err-TooLarge g c =
-    rw c.of-in-Err-TooLarge.ensures (opens_large (g.F.Files.told c.args.files.now) (g.F.Files.told c.read_all.new.files) c.args.place.now c.args.name.now
+    rw c.of-in-Err-TooLarge.ensures (opens_large (g.F.Files.known c.args.files.now) (g.F.Files.known c.read_all.new.files) c.args.place.now c.args.name.now
     c.refused-in-Err-TooLarge.result c.in-Ok.ensures.cases.1
-    (λ all told. rw c.in-Ok.ensures.cases.0 at (c.in-Err-TooLarge.ensures.large all told (ap Err c.in-Err-TooLarge.field-0-is)))
+    (λ all known. rw c.in-Ok.ensures.cases.0 at (c.in-Err-TooLarge.ensures.large all known (ap Err c.in-Err-TooLarge.field-0-is)))
     c.in-Err-TooLarge.ensures.tree.same (c.in-Err-TooLarge.ensures.tree.large (ap Err c.in-Err-TooLarge.field-0-is))
     (rw c.as_slice-in-Err-TooLarge.ensures at c.refused-in-Err-TooLarge.ensures))

@@ -24,7 +24,7 @@ loop-place-preserved c =
     let row = row_at c.loop-place.place in
     let rest = drop (c.loop-place.place + 1) catalogue in
     let there = rw (c.in-Ok.is, c.row-row.ensures, c.at.ensures) at c.in_ok-reading.ensures in
-    ap (λ front. before front (readings_of s rest)) c.in_ok-push-in-Ok.ensures.ok
+    ap (λ prefix. before prefix (readings_of s rest)) c.in_ok-push-in-Ok.ensures.ok
     ∙ read_next s c.loop-place.readings row rest c.in-Ok.reading (sym there)
     ∙ ap (λ rows. before c.loop-place.readings (readings_of s rows)) (sym (drop_row c.loop-place.place c.loop-place-test.true))
     ∙ c.loop-place.invariant

@@ -3,11 +3,11 @@ use Rattle.pf_maincf.specs.File.{bytes_in, conf_text}
 use Rattle.pf_tools.specs.Said.{text_said}
 use Rattle.pf_tools.proofs.file.file_said.Goals as goal
 
-pub returns-in-Ok-clause-told : goal.returns-in-Ok-clause-told
-returns-in-Ok-clause-told g c = λ all told.
+pub returns-in-Ok-clause-known : goal.returns-in-Ok-clause-known
+returns-in-Ok-clause-known g c = λ all known.
     let said = rw c.as_slice.ensures at c.read_said.ensures.said in
-    rw (c.in-Ok.ensures.told all told) said
+    rw (c.in-Ok.ensures.known all known) said
 
-pub returns-in-Err-clause-told : goal.returns-in-Err-clause-told
-returns-in-Err-clause-told g c = λ all told.
-    goes_through (conf_text c.args.file.now (bytes_in all c.args.file.now)) (text_said c.args.file.now c.args.words.now) c.in-Err.fault (c.in-Err.ensures.told all told)
+pub returns-in-Err-clause-known : goal.returns-in-Err-clause-known
+returns-in-Err-clause-known g c = λ all known.
+    goes_through (conf_text c.args.file.now (bytes_in all c.args.file.now)) (text_said c.args.file.now c.args.words.now) c.in-Err.fault (c.in-Err.ensures.known all known)

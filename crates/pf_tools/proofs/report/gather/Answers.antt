@@ -5,26 +5,26 @@ use Rattle.pf_tools.proofs.report.gather.Goals as goal
 
 pub returns-in-Ok-Printed-clause-ok : goal.returns-in-Ok-Printed-clause-ok
 returns-in-Ok-Printed-clause-ok g c =
-    let told = rw (c.as_slice-file.ensures, c.in_ok-name.ensures, c.in-Ok-Printed.field-0-is) at c.in-Ok-Printed.ensures.told in
-    prints_report c.args.words.now _ _ c.in-Ok-Printed.lines c.in-Ok-Printed.warnings c.printed_report.result told (c.in-Ok-Printed.ensures.kept (λ e. cc)) c.printed_report.ensures
+    let known = rw (c.as_slice-file.ensures, c.in_ok-name.ensures, c.in-Ok-Printed.field-0-is) at c.in-Ok-Printed.ensures.known in
+    prints_report c.args.words.now _ _ c.in-Ok-Printed.lines c.in-Ok-Printed.warnings c.printed_report.result known (c.in-Ok-Printed.ensures.kept (λ e. cc)) c.printed_report.ensures
 
 pub returns-in-Ok-Edited-clause-ok : goal.returns-in-Ok-Edited-clause-ok
 returns-in-Ok-Edited-clause-ok g c =
-    let told = rw (c.as_slice-file.ensures, c.in_ok-name.ensures, c.in-Ok-Edited.field-0-is) at c.in-Ok-Edited.ensures.told in
+    let known = rw (c.as_slice-file.ensures, c.in_ok-name.ensures, c.in-Ok-Edited.field-0-is) at c.in-Ok-Edited.ensures.known in
     let is = rw (c.as_slice-file.ensures, c.in_ok-name.ensures, c.as_slice.ensures) at c.edited_report.ensures.report in
-    IfOk-weaker c.edited_report.result _ _ (λ report is. edit_report c.args.words.now _ (g.F.Files.told c.file_said.new.files) _ c.in-Ok-Edited.text (c.in-Ok-Edited.ensures.kept (λ e. cc)) told report is) is
+    IfOk-weaker c.edited_report.result _ _ (λ report is. edit_report c.args.words.now _ (g.F.Files.known c.file_said.new.files) _ c.in-Ok-Edited.text (c.in-Ok-Edited.ensures.kept (λ e. cc)) known report is) is
 
 pub returns-in-Ok-Edited-clause-err : goal.returns-in-Ok-Edited-clause-err
 returns-in-Ok-Edited-clause-err g c =
-    let told = rw (c.as_slice-file.ensures, c.in_ok-name.ensures, c.in-Ok-Edited.field-0-is) at c.in-Ok-Edited.ensures.told in
+    let known = rw (c.as_slice-file.ensures, c.in_ok-name.ensures, c.in-Ok-Edited.field-0-is) at c.in-Ok-Edited.ensures.known in
     let left = rw (c.as_slice-file.ensures, c.in_ok-name.ensures, c.as_slice.ensures) at c.edited_report.ensures.err in
-    on_err_weaker c.edited_report.result (λ left. edit_short c.args.words.now _ (g.F.Files.told c.file_said.new.files) _ c.in-Ok-Edited.text (c.in-Ok-Edited.ensures.kept (λ e. cc)) told left) left
+    on_err_weaker c.edited_report.result (λ left. edit_short c.args.words.now _ (g.F.Files.known c.file_said.new.files) _ c.in-Ok-Edited.text (c.in-Ok-Edited.ensures.kept (λ e. cc)) known left) left
 
 pub returns-in-Err-Refused-clause-ok : goal.returns-in-Err-Refused-clause-ok
 returns-in-Err-Refused-clause-ok g c =
     let fault = c.in-Err-Refused.field-0-is in
-    let told = rw (c.in-Err-Refused.field-0-is, c.as_slice-file.ensures, c.in_ok-name.ensures) at c.in-Err-Refused.ensures.told in
-    IfOk-weaker c.refused_report.result _ _ (λ report is. refuses_report c.args.words.now _ _ c.in-Err-Refused.refusal report told (c.in-Err-Refused.ensures.kept (λ e. cc)) is)
+    let known = rw (c.in-Err-Refused.field-0-is, c.as_slice-file.ensures, c.in_ok-name.ensures) at c.in-Err-Refused.ensures.known in
+    IfOk-weaker c.refused_report.result _ _ (λ report is. refuses_report c.args.words.now _ _ c.in-Err-Refused.refusal report known (c.in-Err-Refused.ensures.kept (λ e. cc)) is)
     c.refused_report.ensures
 
 pub returns-in-Err-Failed-clause-ok : goal.returns-in-Err-Failed-clause-ok

@@ -8,20 +8,20 @@ returns-in_default g c = took_course c.args.words.now _ _ _ course.starves refl 
 
 pub returns-in-Ok-open_conf : goal.returns-in-Ok-open_conf
 returns-in-Ok-open_conf g c =
-    let told = rw (c.as_slice-file.ensures, c.in-Ok.ensures) at c.in-Ok-open_conf.ensures.told in
-    took_course c.args.words.now _ _ _ (course.talks c.in-Ok-open_conf.opening c.talk.result) c.talk_status.ensures
-    (told, c.in-Ok-open_conf.ensures.kept (λ e. cc), c.talk.ensures)
+    let known = rw (c.as_slice-file.ensures, c.in-Ok.ensures) at c.in-Ok-open_conf.ensures.known in
+    took_course c.args.words.now _ _ _ (course.serves c.in-Ok-open_conf.opening c.run_session.result) c.loop_status.ensures
+    (known, c.in-Ok-open_conf.ensures.kept (λ e. cc), c.run_session.ensures)
 
 pub returns-in-Err-Refused : goal.returns-in-Err-Refused
 returns-in-Err-Refused g c =
     let is = c.in-Err-Refused.field-0-is in
-    let told = rw (is, c.as_slice-file.ensures, c.in-Ok.ensures) at c.in-Err-Refused.ensures.told in
+    let known = rw (is, c.as_slice-file.ensures, c.in-Ok.ensures) at c.in-Err-Refused.ensures.known in
     took_course c.args.words.now _ _ _ (course.refuses c.in-Err-Refused.refusal c.say_refused.result) c.status_behind.ensures
-    (told, c.in-Err-Refused.ensures.kept (λ e. cc), record { says = c.say_refused.ensures _ _; input = refl })
+    (known, c.in-Err-Refused.ensures.kept (λ e. cc), record { says = c.say_refused.ensures _ _; input = refl })
 
 pub returns-in-Err-Failed : goal.returns-in-Err-Failed
 returns-in-Err-Failed g c =
-    let says = rw (c.as_slice-file.ensures, c.in-Ok.ensures) at (c.say_unread.ensures (g.O.Sink.told c.args.out.now) (g.M.Sink.told c.args.mail.now)) in
+    let says = rw (c.as_slice-file.ensures, c.in-Ok.ensures) at (c.say_unread.ensures (g.O.Sink.known c.args.out.now) (g.M.Sink.known c.args.mail.now)) in
     took_course c.args.words.now _ _ _ (course.unread c.say_unread.result) c.status_behind-in-Err-Failed.ensures
     (c.in-Err-Failed.ensures.failed (ap Err c.in-Err-Failed.field-0-is), record { says = says; input = refl })
 

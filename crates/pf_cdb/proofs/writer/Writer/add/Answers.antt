@@ -25,7 +25,7 @@ pub invariant_of-result : goal.invariant_of-result
 invariant_of-result c =
     (added c.self.inside.file _ c.self.inside.slots.items _ c.len-at.result c.len.result c.hash.result (record { key = c.args.key.now; value = c.args.value.now })
     c.self.invariant c.len-at.ensures (c.len.ensures ∙ c.self.inside.slots.ok.0) c.hash.ensures (c.has_room.ensures.yes c.if-not-has_room.false)
-    c.in_ok-add_record.ensures c.in_ok-push_slot.ensures).front
+    c.in_ok-add_record.ensures c.in_ok-push_slot.ensures).prefix
 
 pub returns-clause-added : goal.returns-clause-added
 returns-clause-added c =

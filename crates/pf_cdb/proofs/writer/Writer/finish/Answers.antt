@@ -2,7 +2,7 @@ use Rattle.std.proofs.Common.{◌≡◌, ◌≤◌, None, length, ap, ◌∙◌,
 use Rattle.std.specs.Prelude.{IfOk}
 use Rattle.std.specs.List.{find}
 use Rattle.std.specs.Str.{bytes_eq}
-use Rattle.pf_cdb.proofs.AddingLaws.{if_finished, size_front}
+use Rattle.pf_cdb.proofs.AddingLaws.{if_finished, size_prefix}
 use Rattle.pf_cdb.proofs.DamageLaws.{none_from_sound}
 use Rattle.pf_cdb.proofs.ElementLaws.{elements_written, firsts_all}
 use Rattle.pf_cdb.proofs.WrittenSoundLaws.{found_written, sound_written}
@@ -21,7 +21,7 @@ returns c =
     ap (pairs_at c.self.inside.file) c.as_slice.ensures.value ∙ c.self.view_is in
     let is : IfOk r (λ file. file ≡ written pairs) = subst (λ p. IfOk r (λ file. file ≡ written p)) all c.finished.ensures in
     let fits : length (written pairs) ≤ 67108864 =
-    omega (arith, size_front c.self.inside.file c.self.inside.slots.items c.self.invariant, ap (λ p. length (written p)) c.self.view_is, c.self.invariant.fits) in
+    omega (arith, size_prefix c.self.inside.file c.self.inside.slots.items c.self.invariant, ap (λ p. length (written p)) c.self.view_is, c.self.invariant.fits) in
     let sound = sound_written pairs fits in
     record {
       file = is;

@@ -8,6 +8,6 @@ pub returns : goal.returns
 returns c =
     rw (← c.self.view_is)
     (λ sources are. IfOk-weaker c.named_value.result _ _ (λ value is. is
-    ∙ ap (level_value c.self.inside.names (c.self.inside.shapes.levels + 1)) c.in_ok-name.ensures
-    ∙ name_kept c.self.inside.names sources c.self.inside.shapes.levels c.args.name.now are c.self.invariant.1)
+    ∙ ap (level_value c.self.inside.names (c.self.inside.sizes.levels + 1)) c.in_ok-name.ensures
+    ∙ name_kept c.self.inside.names sources c.self.inside.sizes.levels c.args.name.now are c.self.invariant.1)
     c.named_value.ensures)

@@ -7,5 +7,5 @@ pub returns : goal.returns
 returns c =
     rw (← c.self.view_is)
     (λ sources are. IfOk-weaker c.value_of.result _ _ (λ value is. is
-    ∙ value_kept c.self.inside.names sources c.self.inside.shapes.levels c.args.text.now are c.self.invariant.1)
+    ∙ value_kept c.self.inside.names sources c.self.inside.sizes.levels c.args.text.now are c.self.invariant.1)
     c.value_of.ensures)

@@ -1,5 +1,5 @@
-use Rattle.pf_maps.proofs.MeaningLaws.{told_all}
+use Rattle.pf_maps.proofs.MeaningLaws.{known_all}
 use Rattle.pf_maps.proofs.tables.TablesLookup.results.Goals as goal
 
 pub returns-clause-all : goal.returns-clause-all
-returns-clause-all c = told_all c.args.self.now.tables c.args.id.0
+returns-clause-all c = known_all c.args.self.now.tables c.args.id.0

@@ -1,4 +1,4 @@
-use Rattle.pf_table.proofs.MemoryLemmas.{answered_listing, failed_listing, failed_listing_is, listing_is, never_fails, told_has_all}
+use Rattle.pf_table.proofs.MemoryLemmas.{answered_listing, failed_listing, failed_listing_is, listing_is, never_fails, known_has_all}
 use Rattle.pf_table.proofs.memory.FixedLookupLookup.results.Goals as goal
 
 pub returns-then-next-clause-answered : goal.returns-then-next-clause-answered
@@ -8,7 +8,7 @@ pub returns-then-next-clause-stays : goal.returns-then-next-clause-stays
 returns-then-next-clause-stays c = failed_listing_is c.args.self.now _ (rw c.if-next.true at c.next.ensures)
 
 pub returns-then-next-clause-all : goal.returns-then-next-clause-all
-returns-then-next-clause-all c = told_has_all c.args.self.now c.args.id.0
+returns-then-next-clause-all c = known_has_all c.args.self.now c.args.id.0
 
 pub returns-else-next-clause-stays : goal.returns-else-next-clause-stays
 returns-else-next-clause-stays c = listing_is c.args.self.now _ c.args.id.0 _ (rw c.if-next.false at c.next.ensures) (rw c.next.ensures.tables at c.values.ensures)
@@ -20,4 +20,4 @@ pub returns-else-next-clause-answered : goal.returns-else-next-clause-answered
 returns-else-next-clause-answered c = answered_listing c.args.self.now c.args.id.0 _ (rw c.next.ensures.tables at c.values.ensures)
 
 pub returns-else-next-clause-all : goal.returns-else-next-clause-all
-returns-else-next-clause-all c = told_has_all c.args.self.now c.args.id.0
+returns-else-next-clause-all c = known_has_all c.args.self.now c.args.id.0
