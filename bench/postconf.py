@@ -1,12 +1,13 @@
 #!/usr/bin/env python3
-"""Measures the built program's postconf: what it prints of a main.cf of 30 settings, and its edit of longer and longer ones.
+"""Measures the built program's postconf: what it prints of a main.cf of 30 settings, and how that and its edit grow with longer ones.
 
 usage: bench/postconf.py
 
-It counts instructions with callgrind; where valgrind is not there it says so and takes the processor time of the edits
-alone, the least of a few rounds. It prints a table, and fails where `postconf -n` or `postconf` takes more than 5,000,000
-instructions, where an edit of a main.cf of twice the lines costs more than 2.3 times as much, where the program does not
-print each setting, and where an edit leaves anything but the expected text.
+It counts instructions with callgrind; where valgrind is not there it says so and takes processor time in their place, the
+least of a few rounds, where costs are compared. It prints a table, and fails where `postconf -n` or `postconf` takes more than
+5,000,000 instructions for 30 settings, where either costs more than 2.3 times as much for twice the names, where an edit of a
+main.cf of twice the lines does, where the program does not print each setting, and where an edit leaves anything but the
+expected text.
 """
 import resource
 import shutil
@@ -19,6 +20,7 @@ PROGRAM = Path(__file__).resolve().parent.parent / "crates/postgate/out/postgate
 MOST_INSTRUCTIONS = 5_000_000
 MOST_GROWTH = 2.3
 LENGTHS = (10_000, 20_000, 40_000)
+NAMES = (2_000, 4_000, 8_000)
 TIMED_ROUNDS = 20
 MAIN_CF = """myhostname = mx.example.com
 mydomain = example.com
@@ -102,18 +104,34 @@ def printed(folder, counting, words, alone):
     return fits
 
 
+def cost_of(folder, counting, words):
+    """What a run costs, instructions or seconds of processor time, and what it prints."""
+    if counting:
+        return instructions(folder, words)
+    before = resource.getrusage(resource.RUSAGE_CHILDREN)
+    out = run(folder, [PROGRAM, *words])
+    after = resource.getrusage(resource.RUSAGE_CHILDREN)
+    return after.ru_utime + after.ru_stime - before.ru_utime - before.ru_stime, out
+
+
+def printed_cost(folder, counting, words, names):
+    """What it costs to print a main.cf that sets so many names, in an order that is not theirs."""
+    lines = [f"name_{i * 7919 % names} = $myhostname, {{text}} {i}" for i in range(names)]
+    (folder / "main.cf").write_text("\n".join(lines) + "\n")
+    cost, out = cost_of(folder, counting, words)
+    printed = out.decode().splitlines()
+    if words[-1] == "-nx":
+        lines = [line.replace("$myhostname", "localhost.localdomain") for line in lines]
+    if not set(lines) <= set(printed) or printed != sorted(printed, key=lambda line: line.split(" =")[0].encode()):
+        sys.exit(f"postconf.py: {' '.join(words)} printed other lines than those of {names} names in order")
+    return cost
+
+
 def edited_cost(folder, counting, lines):
-    """What one edit of a main.cf of so many lines costs: instructions, or seconds of processor time."""
-    words = ["postconf", "-e", EDIT]
+    """What one edit of a main.cf of so many lines costs."""
     conf = folder / "main.cf"
     conf.write_bytes(long_main_cf(lines, "mx.example.com"))
-    if counting:
-        cost = instructions(folder, words)[0]
-    else:
-        before = resource.getrusage(resource.RUSAGE_CHILDREN)
-        run(folder, [PROGRAM, *words])
-        after = resource.getrusage(resource.RUSAGE_CHILDREN)
-        cost = after.ru_utime + after.ru_stime - before.ru_utime - before.ru_stime
+    cost = cost_of(folder, counting, ["postconf", "-e", EDIT])[0]
     if conf.read_bytes() != long_main_cf(lines, "edited.example.com"):
         sys.exit(f"postconf.py: the edit of {lines} lines left another text than the expected one")
     if [left.name for left in folder.iterdir()] != ["main.cf"]:
@@ -121,20 +139,20 @@ def edited_cost(folder, counting, lines):
     return cost
 
 
-def grown(folder, counting):
-    """Whether the edit grows in step with the lines; each length is twice the one before."""
-    rounds = [[edited_cost(folder, counting, lines) for lines in LENGTHS] for _ in range(1 if counting else TIMED_ROUNDS)]
-    costs = [min(of_one_length) for of_one_length in zip(*rounds)]
+def grown(name, counting, sizes, unit, cost_at):
+    """Whether a cost grows in step with the sizes, each of which is twice the one before."""
+    rounds = [[cost_at(size) for size in sizes] for _ in range(1 if counting else TIMED_ROUNDS)]
+    costs = [min(of_one_size) for of_one_size in zip(*rounds)]
     fits = True
-    for place, (lines, cost) in enumerate(zip(LENGTHS, costs)):
+    for place, (size, cost) in enumerate(zip(sizes, costs)):
         said = f"{cost:,} instructions" if counting else f"{cost:.4f} s"
         if place > 0:
             growth = cost / costs[place - 1]
-            said += f", {growth:.2f} times that of half the lines, of at most {MOST_GROWTH}"
+            said += f", {growth:.2f} times that of half the {unit}, of at most {MOST_GROWTH}"
             if growth > MOST_GROWTH:
                 fits = False
                 said += ", TOO MUCH"
-        print(f"postconf -e, {lines} lines: {said}")
+        print(f"{name}, {size} {unit}: {said}")
     return fits
 
 
@@ -149,7 +167,9 @@ def main():
         (folder / "main.cf").write_text(MAIN_CF)
         fits = [printed(folder, counting, ["postconf", "-n"], True),
                 printed(folder, counting, ["postconf"], False),
-                grown(folder, counting)]
+                *[grown(" ".join(words), counting, NAMES, "names", lambda names, words=words: printed_cost(folder, counting, words, names))
+                  for words in (["postconf", "-n"], ["postconf"], ["postconf", "-nx"])],
+                grown("postconf -e", counting, LENGTHS, "lines", lambda lines: edited_cost(folder, counting, lines))]
     return 0 if all(fits) else 1
 
 

@@ -1,11 +1,12 @@
 //! Tables in memory.
-ghost use Rattle.std.specs.Prelude.{◌≡◌, ◌<◌, ◌==◌, Some, Ok, true, nat_lt, length, map, slice_get, IfOk};
+ghost use Rattle.std.specs.Prelude.{◌≡◌, ◌≢◌, ◌<◌, ◌==◌, Some, Ok, Err, true, nat_lt, length, map, slice_get, IfOk};
 ghost use Rattle.std.specs.List.{find, list_all, list_any};
 ghost use Rattle.std.specs.Option.{option_copied};
 ghost use Rattle.std.specs.Str.{bytes_eq};
 ghost use Rattle.pf_base.specs.Clauses.Memory.{none_made};
 ghost use Rattle.pf_base.specs.Clauses.Unless.{Unless};
-ghost use Rattle.pf_asks.specs.Looking.{CanFind, answer_of};
+ghost use Rattle.pf_asks.specs.Clauses.Held.{Answered};
+ghost use Rattle.pf_asks.specs.Looking.{CanFind, HasAll, Values, answer_of, listed, listing_failed, look_failed, looked_up, results_of, value_of};
 ghost use Rattle.pf_table.specs.Tables as spec;
 ghost use Rattle.pf_table.specs.Clauses.Memory as memory;
 
@@ -150,9 +151,18 @@ impl FixedLookup {
 }
 
 impl Lookup for FixedLookup {
+    ghost use Rattle.pf_base.specs.Clauses.Memory.{fails_next};
+
     ghost tables = { memory.seen };
 
-    fn find(&mut self, alloc: Global, id: TableId, key: &[u8]) -> Result<Found, TableFault> {
+    fn find(&mut self, alloc: Global, id: TableId, key: &[u8]) -> Result<Found, TableFault>
+        requires sound { (memory.seen self.old).sound ≡ true }
+        requires there { id.0 < (memory.seen self.old).count }
+        ensures stays { memory.seen self.new ≡ looked_up result (memory.seen self.old) }
+        ensures answered { Unless result TableFault.NoMemory (Answered look_failed (memory.seen self.old).held.content (value_of id.0 key.now)) }
+        ensures fails { look_failed result ≡ fails_next self.old.calls }
+        ensures call { memory.CountsCall (memory.with_find self.old) self.new (fails_next self.old.calls) }
+    {
         self.count_find();
         if self.next() {
             return Err(TableFault::Failed);
@@ -164,7 +174,16 @@ impl Lookup for FixedLookup {
         true
     }
 
-    fn results(&mut self, alloc: Global, id: TableId) -> Result<Results, TableFault> {
+    fn results(&mut self, alloc: Global, id: TableId) -> Result<Results, TableFault>
+        requires sound { (memory.seen self.old).sound ≡ true }
+        requires there { id.0 < (memory.seen self.old).count }
+        ensures stays { memory.seen self.new ≡ listed result (memory.seen self.old) }
+        ensures works { result ≢ Err TableFault.Fails }
+        ensures answered { Unless result TableFault.NoMemory (Answered listing_failed (memory.seen self.old).held.content (results_of id.0)) }
+        ensures all { (values : Values) → (memory.seen self.old).held.content ≡ Some values → HasAll (values id.0) }
+        ensures fails { listing_failed result ≡ fails_next self.old.calls }
+        ensures call { memory.CountsCall self.old self.new (fails_next self.old.calls) }
+    {
         if self.next() {
             Err(TableFault::Failed)
         } else {

@@ -10,11 +10,10 @@
 //! Rows that begin with `# ` are comments.
 #![tactic(auto)]
 
-use pf_asks::{Found, TableFault};
+use pf_asks::{Found, Results, TableFault};
 use pf_base::{Bytes, ConfFault, List, NoMemory, Pair, TableId, decimal};
 use pf_table::{
-    FailTable, FixedLookup, Inline, Repeated, Repeats, Results, StaticTable, Table, TextTable,
-    find_first,
+    FailTable, FixedLookup, Inline, Repeated, Repeats, StaticTable, Table, TextTable, find_first,
 };
 use std::alloc::{AllocError, Global};
 use std::io;
