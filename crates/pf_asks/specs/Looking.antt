@@ -39,7 +39,7 @@ abbrev pub IsAmong : List ℕ → Results → Type 0
 IsAmong value (Listed values) = list_any (bytes_eq value) values ≡ true
 IsAmong value Anything = Unit {0}
 
--- each value that a table has at some key is among its results
+-- a table gives no value that is not among its results
 abbrev pub HasAll : Meaning → Type 0
 HasAll meaning = (key value : List ℕ) → meaning.value key ≡ Some (Value value) → IsAmong value meaning.results
 

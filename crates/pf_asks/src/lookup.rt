@@ -57,7 +57,7 @@ pub trait Lookup {
         ensures is { result ≡ (tables self.now).partial id.0 }
         ensures known { (values : Values) → (tables self.now).held.content ≡ Some values → result ≡ (values id.0).partial_keys };
 
-    /// Which values a table may give: each that it has at some key is among them. It is no lookup. `Failed` comes exactly
+    /// Which values a table may give; it gives no other one. It is no lookup. `Failed` comes exactly
     /// where the count of faults goes up, by one, and `Fails` never.
     fn results(&mut self, alloc: Global, id: TableId) -> Result<Results, TableFault>
         requires sound { (tables self.old).sound ≡ true }

@@ -75,7 +75,7 @@ pub(crate) fn value_of(text: &[u8]) -> &[u8]
     trimmed(&text[word_len(text)..])
 }
 
-// A condition.
+// The condition that a pattern begins.
 fn condition_of(text: &[u8]) -> Result<Entry, Reason>
     ensures { result ≡ tables.condition_of text.now }
 {
@@ -83,7 +83,7 @@ fn condition_of(text: &[u8]) -> Result<Entry, Reason>
     Ok(Entry::If(pattern))
 }
 
-// A rule.
+// The rule of a pattern, with its result.
 fn rule_of(text: &[u8]) -> Result<Entry, Reason>
     ensures { result ≡ tables.rule_of text.now }
 {

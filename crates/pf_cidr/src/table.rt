@@ -32,7 +32,7 @@ impl Model for CidrTable {
     ghost invariant = { λ table. length table.results ≡ length (rules_of [] table.entries) };
 }
 
-// A refusal.
+// The refusal of a file at this line, for this cause and name.
 fn refused(alloc: Global, file: &[u8], line: u64, cause: Cause, name: &[u8]) -> ConfFault
     ensures { result ≢ ConfFault.NoMemory → result ≡ ConfFault.Refused (tables.refused file.now line cause name.now) }
 {

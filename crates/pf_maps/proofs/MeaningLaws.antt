@@ -125,7 +125,7 @@ more_results zero ms h k = absurd (h refl)
 more_results (suc zero) ms h k = absurd (k refl)
 more_results (suc (suc n)) ms h k = refl
 
--- each value that a table has at some key is among its results, for each kind of table
+-- no kind of table gives a value that is not among its results
 alike : (a b : List ℕ) → a ≡ b → bytes_eq a b ≡ true
 alike a b e = (bytes_eq-Decides a b).1 e
 

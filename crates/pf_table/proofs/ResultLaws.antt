@@ -1,4 +1,4 @@
--- Each value that a table has at some key is among its results, for each kind of table.
+-- No kind of table gives a value that is not among its results.
 use Rattle.std.proofs.Common.{◌≡◌, ◌||◌, ℕ, Bool, true, false, List, [], ◌∷◌, Some, refl, sym, cond}
 use Rattle.std.proofs.lemmas.Slice.Eq.{bytes_eq-Decides}
 use Rattle.std.specs.List.{find, list_any}

@@ -12,7 +12,7 @@ abbrev pub or_else : Found → Try TableFault Found → Try TableFault Found
 or_else (Value bytes) behind = ok (Value bytes)
 or_else Absent behind = behind
 
--- the value of the first table that has one; a fault of a table before it is the answer
+-- tables are asked from the left, up to one that has a value or fails
 unfoldable pub first_of : List TableId → List ℕ → Try TableFault Found
 first_of [] key = ok Absent
 first_of (id ∷ ids) key = do

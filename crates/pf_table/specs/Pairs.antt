@@ -1,4 +1,4 @@
--- Pairs of which each key comes once. Which of repeated keys counts is postgate's own for texthash; for cdb files it is that of postmap(1).
+-- Which pair of a repeated key is kept, and at which place. For texthash that is postgate's own; for cdb files it is that of postmap(1).
 use Rattle.std.specs.Prelude.{ℕ, Bool, List, [], ◌∷◌, reverse, if◌then◌else◌}
 use Rattle.std.specs.List.{fold, list_any}
 use Rattle.std.specs.Str.{bytes_eq}

@@ -30,12 +30,12 @@ found_in pairs key = found_as (find (λ pair. bytes_eq key pair.key) pairs)
 abbrev pub kept_key : Bool → List ℕ → List ℕ
 kept_key folds key = if folds then folded key else key
 
--- pairs, and whether letters count as the same in either case; their keys are kept so
+-- pairs, and whether letters count as the same in either case: then the keys of the pairs are folded
 pub record Keyed : Type 0 where
   pub folds : Bool
   pub pairs : List Pair
 
--- texthash, inline and cdb: the value of the pair of this key
+-- texthash and inline: the value of the pair of this key
 abbrev pub keyed_meaning : Keyed → Meaning
 keyed_meaning table = record {
   value = λ key. Some (found_in table.pairs (kept_key table.folds key));

@@ -30,8 +30,8 @@ fn first_in<T: Lookup>(
     Ok(Found::Absent)
 }
 
-/// The value of the first table that has one; a fault of a table before it is the answer. `Failed` comes exactly where the
-/// count of faults goes up, by one; each table is looked up once at most.
+/// What the first of these tables answers that has a value for the key, or the fault of the first that fails before that.
+/// `Failed` comes exactly where the count of faults goes up, by one. There is at most one lookup for each of `ids`.
 pub fn find_first<T: Lookup>(
     alloc: Global,
     tables: &mut T,

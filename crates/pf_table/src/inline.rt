@@ -169,7 +169,7 @@ fn table_of(
 
 impl Inline {
     /// The table of the text between the braces of `inline:{..}`: items `key=value` without space, or `{key = value}`, parted
-    /// by commas or space. Of a repeated key the first item counts. Where `folded`, letters count as the same in either case.
+    /// by commas, space or line feeds. Of a repeated key the first item counts. Where `folded`, letters count as the same in either case.
     /// A text with another item, with an empty key or with a brace that has no partner is refused as C9, with this file and
     /// line and the name of the whole specification.
     pub fn read(

@@ -20,7 +20,7 @@ pub trait Table {
     fn partial_keys(&self) -> bool
         ensures { result ≡ (meaning self.now).partial_keys };
 
-    /// Which values it may give. Each value that it has at some key is among them.
+    /// Which values it may give. It gives no other one, whatever the key.
     fn results(&self, alloc: Global) -> Result<Results, NoMemory>
         ensures listed { IfOk result (λ results. results ≡ (meaning self.now).results) }
         ensures all { HasAll (meaning self.now) };
