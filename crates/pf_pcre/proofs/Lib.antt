@@ -1,0 +1,13 @@
+pub mod BuiltLemmas
+pub mod Cases
+pub mod FaultLemmas
+pub mod FindLaws
+pub mod FoundLemmas
+pub mod KeyLemmas
+pub mod LineLemmas
+pub mod NumberLemmas
+pub mod PieceLaws
+pub mod ResultLaws
+pub mod Rows
+pub mod TableLemmas
+pub mod TakingLaws

@@ -1,0 +1,19 @@
+//! Tables of patterns (pcre_table(5)): how they are read, and which rule applies to a key.
+#![tactic(auto)]
+
+mod entries;
+mod entry;
+mod expand;
+mod line;
+mod pattern;
+mod patterns;
+mod pieces;
+mod reason;
+mod shape;
+mod switches;
+mod table;
+
+pub use pattern::Pattern;
+pub use patterns::{BuildFault, Patterns};
+pub use switches::Switches;
+pub use table::PcreTable;

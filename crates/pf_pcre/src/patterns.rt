@@ -1,0 +1,106 @@
+//! The patterns of tables (pcre_table(5)), built by the crate regex.
+ghost use Rattle.std.specs.Prelude.{◌≡◌, ◌≤◌};
+ghost use Rattle.pf_base.specs.Clauses.Unless.{Unless};
+ghost use Rattle.pf_asks.specs.Clauses.Causes.{counted_if};
+ghost use Rattle.pf_pcre.specs.Patterns as spec;
+ghost use Rattle.pf_pcre.specs.Clauses.Built.{IsAnswerOf};
+ghost use Rattle.pf_pcre.specs.Clauses.Sizes.{is_size, is_too_large};
+
+use crate::pattern::Pattern;
+use crate::switches::Switches;
+use regex::{Error, Regex, RegexBuilder};
+use std::alloc::Global;
+use std::marker::Model;
+
+/// Why a pattern was not built.
+#[derive(Clone, Copy, Debug, PartialEq, Eq)]
+pub enum BuildFault {
+    /// The text is no pattern of the crate regex, or is nested more than 250 deep.
+    Syntax,
+    /// The pattern takes too much room.
+    TooLarge,
+    /// Memory was wanting.
+    NoMemory,
+}
+
+impl From<Error> for BuildFault {
+    ghost use Rattle.pf_pcre.specs.Clauses.Sizes.{fault_of};
+
+    ghost from_gives = { λ error fault. fault ≡ fault_of error };
+
+    fn from(error: Error) -> BuildFault {
+        match error {
+            Error::Syntax(_) => BuildFault::Syntax,
+            Error::CompiledTooBig => BuildFault::TooLarge,
+            Error::Internal => BuildFault::TooLarge,
+            Error::OutOfMemory => BuildFault::NoMemory,
+        }
+    }
+}
+
+/// Builds patterns, and counts those that took too much room.
+#[derive(Debug, Drop)]
+pub struct Patterns {
+    faults: u64,
+}
+
+impl Model for Patterns {
+    ghost use Rattle.std.specs.Prelude.{ℕ};
+
+    ghost Value = { ℕ };
+
+    ghost view = { λ patterns. patterns.faults };
+}
+
+// The regex of a pattern.
+fn regex_of(alloc: Global, pattern: &str, switches: &Switches) -> Result<Regex, Error>
+    ensures { IsAnswerOf switches.now pattern.now result }
+{
+    RegexBuilder::new(pattern)
+        .case_insensitive(switches.case)
+        .multi_line(switches.lines)
+        .dot_matches_new_line(switches.dot)
+        .swap_greed(switches.greed)
+        .ignore_whitespace(switches.free)
+        .build(alloc)
+}
+
+impl Patterns {
+    /// Nothing is counted yet.
+    pub fn new() -> Patterns
+        ensures { result ≡ 0 }
+    {
+        Patterns { faults: 0 }
+    }
+
+    /// The pattern of a text with these switches. `Syntax` comes exactly where the text is none, and `TooLarge` only of one
+    /// that is; it is counted.
+    pub fn build(
+        &mut self,
+        alloc: Global,
+        pattern: &str,
+        switches: &Switches,
+    ) -> Result<Pattern, BuildFault>
+        ensures built { Unless result BuildFault.NoMemory (λ r. r ≡ spec.built_of (is_too_large r) (record { switches = switches.now; text = pattern.now })) }
+        ensures counts { self.new ≡ counted_if (is_too_large result) self.old }
+    {
+        match regex_of(alloc, pattern, switches) {
+            Ok(regex) => Ok(Pattern::new(*switches, regex)),
+            Err(error) => {
+                let fault = BuildFault::from(error);
+                self.note(fault);
+                Err(fault)
+            }
+        }
+    }
+
+    // Counts a pattern that took too much room.
+    fn note(&mut self, fault: BuildFault)
+        ensures { self.new ≡ counted_if (is_size fault) self.old }
+    {
+        match fault {
+            BuildFault::TooLarge => self.faults = self.faults.saturating_add(1),
+            _ => {}
+        }
+    }
+}
