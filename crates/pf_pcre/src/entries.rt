@@ -5,8 +5,8 @@ ghost use Rattle.pf_pcre.specs.Tables as tables;
 
 use crate::entry::{Entry, plain_value};
 use crate::pieces::Piece;
-use pf_base::{Bytes, List, NoMemory};
 use pf_asks::Results;
+use pf_base::{Bytes, List, NoMemory};
 use std::alloc::Global;
 use std::marker::Model;
 

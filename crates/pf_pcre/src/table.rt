@@ -14,11 +14,10 @@ use crate::line::{LineFault, entry_of};
 use crate::patterns::Patterns;
 use crate::reason::Reason;
 use bstr::ByteSlice;
-use pf_asks::Found;
+use pf_asks::{Found, Results};
 use pf_base::{
     Bytes, Cause, ConfFault, List, Logical, NoMemory, Refused, TextFault, logical_lines,
 };
-use pf_asks::Results;
 use std::alloc::Global;
 use std::marker::Model;
 
