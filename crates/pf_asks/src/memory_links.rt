@@ -63,7 +63,7 @@ fn no_request(alloc: Global) -> Request
     }
 }
 
-// Copies the prefix of what is left into the buffer, and says how many bytes.
+// Copies the first bytes of what is left into the buffer, and says how many bytes.
 fn copy_prefix(buf: &mut [u8], left: &[u8]) -> usize
     ensures count { result ≡ min (length left.now) (length buf.old) }
     ensures copied { take result buf.new ≡ take result left.now }

@@ -8,7 +8,7 @@ use Rattle.std.proofs.lemmas.List.Splits.{join_with_byte-slice_split, slice_spli
 use Rattle.pf_base.specs.Text.Lines.{is_feed, lines, parts, rest}
 use Rattle.pf_base.specs.Clauses.Pieces.{onto_line, unless_line}
 
--- how many pass a test from the end back, where one more is in prefix
+-- how many pass a test from the end back, where one more is before them
 module _ (q : ℕ → Bool) where
   prefix_all : (xs ys : List ℕ) → prefix_len q xs ≡ length xs → prefix_len q (xs ++ ys) ≡ length xs + prefix_len q ys
   prefix_all [] ys all = omega arith

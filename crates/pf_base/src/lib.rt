@@ -19,7 +19,7 @@ pub use meaning::Meaning;
 pub use outside::memory::{MemFiles, MemSink, MemSource};
 pub use outside::reading::{FILE_LIMIT, ReadFault, read_all};
 pub use outside::texts::{
-    SinkFault, Texts, status_behind, write_log, write_out, write_some, write_texts,
+    SinkFault, Texts, blamed, status_behind, write_log, write_out, write_some, write_texts,
 };
 pub use outside::{Files, Sink, Source, status};
 pub use pair::Pair;

@@ -64,7 +64,7 @@ defaults_are_values : list_all (λ r. is_value r.kind r.default_value) catalogue
 unfolding catalogue words_of
 defaults_are_values = refl
 
--- numbers: at their bounds and past them, with zeros in prefix, and with bytes that are no digits
+-- numbers: at their bounds and past them, with leading zeros, and with bytes that are no digits
 header_sizes : map (value_of (kind.Number 100 10000000))
     (codes "99" ∷ codes "100" ∷ codes "0100" ∷ codes "10000000" ∷ codes "10000001" ∷ codes "99999999999999999999" ∷ codes "007" ∷ [])
     ≡ None ∷ Some (Number 100) ∷ Some (Number 100) ∷ Some (Number 10000000) ∷ None ∷ None ∷ None ∷ []
@@ -143,7 +143,7 @@ restriction_arguments : map (argument_of kind.Restrictions)
     ≡ argument.Table ∷ argument.Table ∷ argument.Text ∷ argument.Text ∷ argument.Nothing ∷ argument.Nothing ∷ []
 restriction_arguments = refl
 
--- tables in items: without one exclamation mark a slash in prefix, or a colon and no bracket in prefix
+-- tables in items: without one exclamation mark they begin with a slash, or have a colon and do not begin with a bracket
 tables_in_items : map table_in
     (codes "example.com" ∷ codes "texthash:t" ∷ codes "!cidr:n" ∷ codes "/file" ∷ codes "!/file" ∷ codes "!!/file"
     ∷ codes "[::1]/128" ∷ codes "![::1]" ∷ codes "2001:db8::1" ∷ codes "10.0.0.0/8" ∷ codes "!" ∷ [] ∷ [])

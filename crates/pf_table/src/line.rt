@@ -43,7 +43,7 @@ fn takes_next(taken: bool, b: u8) -> bool
     !taken && b == b'\\'
 }
 
-// The place of the quote that closes the text whose first quote is in prefix.
+// The place of the quote that closes the text whose first quote is before it.
 fn closing_quote(text: &[u8]) -> Option<usize>
     ensures within { IfSome result (λ n. n < length text.now) }
     ensures place { result ≡ spec.closing_quote false text.now }

@@ -3,7 +3,7 @@ ghost use Rattle.std.specs.Prelude.{◌≡◌, [], IsOk};
 ghost use Rattle.pf_base.specs.Outside.Objects.{Says, sinks};
 ghost use Rattle.pf_base.specs.Outside.Known.{Output};
 
-use pf_base::{OuterFault, Sink, SinkFault, Texts, write_some};
+use pf_base::{Sink, SinkFault, Texts, blamed, write_some};
 
 /// Writes the text for the log, and then that for the output; nothing where there is nothing to say. There is none for the record
 /// of messages.
@@ -17,14 +17,6 @@ pub(crate) fn say<O: Sink, J: Sink>(
     ensures no_output { texts.now.out ≡ [] → O.known out.new ≡ O.known out.old }
     ensures nothing { texts.now.out ≡ [] → texts.now.log ≡ [] → IsOk result }
 {
-    match write_some(log, texts.log.as_slice()) {
-        Ok(()) => {}
-        Err(OuterFault::Failed) => return Err(SinkFault::Log),
-        Err(OuterFault::NoMemory) => return Err(SinkFault::NoMemory),
-    }
-    match write_some(out, texts.out.as_slice()) {
-        Ok(()) => Ok(()),
-        Err(OuterFault::Failed) => Err(SinkFault::Out),
-        Err(OuterFault::NoMemory) => Err(SinkFault::NoMemory),
-    }
+    blamed(SinkFault::Log, write_some(log, texts.log.as_slice()))?;
+    blamed(SinkFault::Out, write_some(out, texts.out.as_slice()))
 }

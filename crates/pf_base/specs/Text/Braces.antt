@@ -17,11 +17,11 @@ abbrev pub closing : List ℕ → ℕ
 closing [] = 0
 closing (b ∷ text) = if b == ascii.left_brace then closing text - 1 else if b == ascii.right_brace then closing text + 1 else closing text
 
--- a brace without a partner: an opening one with no closing one left for it after, or a closing one where none is open in prefix
+-- a brace without a partner: an opening one with no closing one left for it after, or a closing one where none is open before it
 abbrev pub is_lone : ℕ → ℕ → List ℕ → Bool
 is_lone depth b behind = (b == ascii.left_brace && closing behind == 0) || (b == ascii.right_brace && depth == 0)
 
--- the place of the first brace without a partner, where so many braces are open in prefix that have theirs after
+-- the place of the first brace without a partner, where so many braces are open before the text that have their partners in it
 abbrev pub lone_brace : ℕ → List ℕ → Option ℕ
 lone_brace depth [] = None
 lone_brace depth (b ∷ text) = if is_lone depth b text then Some 0 else option_map (λ n. n + 1) (lone_brace (open_behind depth b) text)

@@ -11,7 +11,7 @@ is_feed b = b == ascii.line_feed
 abbrev pub parts : List ℕ → List (List ℕ)
 parts text = slice_split is_feed text
 
--- the lines of a text: its parts but the last, after which no line feed is
+-- the lines of a text: its parts but the last, which no line feed ends
 unfoldable pub lines : List ℕ → List (List ℕ)
 lines text = take (length (parts text) - 1) (parts text)
 

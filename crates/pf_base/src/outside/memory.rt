@@ -64,7 +64,7 @@ impl Schedule {
     }
 }
 
-// Copies the prefix of what is left into the buffer, at most so many bytes, and says how many.
+// Copies the first bytes of what is left into the buffer, at most so many bytes, and says how many.
 fn copy_prefix(buf: &mut [u8], left: &[u8], greatest: usize) -> usize
     ensures count { result ≡ min (min (length left.now) (length buf.old)) greatest }
     ensures copied { take result buf.new ≡ take result left.now }

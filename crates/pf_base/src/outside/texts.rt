@@ -79,8 +79,8 @@ pub fn write_some<S: Sink>(sink: &mut S, text: &[u8]) -> Result<(), OuterFault>
     sink.write(text)
 }
 
-// The answer of a write to the sink whose fault this is.
-fn blamed(failed: SinkFault, written: Result<(), OuterFault>) -> Result<(), SinkFault>
+/// The answer of a write to the sink whose fault this is.
+pub fn blamed(failed: SinkFault, written: Result<(), OuterFault>) -> Result<(), SinkFault>
     ensures { result ≡ spec.blamed failed written }
 {
     match written {

@@ -2,7 +2,7 @@
 ghost use Rattle.std.specs.Prelude.{◌≡◌, ◌==◌, ◌<◌, ◌≤◌, [], ◌∷◌, length, IfNone, IfSome};
 ghost use Rattle.std.specs.List.{after_first, before_first, position_or_len, slice_split};
 
-// Where a byte is first, or the length where it does not.
+// Where a byte is first, or the length where there is none.
 fn place_of(text: &[u8], byte: u8) -> usize
     ensures within { result ≤ length text.now }
     ensures place { result ≡ position_or_len (λ b. b == byte) text.now }
