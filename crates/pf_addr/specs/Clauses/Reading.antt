@@ -10,7 +10,7 @@ use Rattle.pf_addr.specs.declared.address.Path.TheVariants.{Null, To}
 use Rattle.pf_addr.specs.declared.address.PathRead.{PathRead}
 use Rattle.pf_addr.specs.declared.mailbox.Mailbox.{Mailbox}
 
--- the place of the quote that closes a quoted string, in what is after its first quote; taken says that a backslash is in prefix
+-- the place of the quote that closes a quoted string, in what is after its first quote; taken says that a backslash comes before it
 abbrev pub closing_quote : Bool → List ℕ → Option ℕ
 closing_quote taken [] = None
 closing_quote taken (b ∷ text) =
