@@ -1,27 +1,28 @@
 //! What the program answers: the bytes that it prints.
 ghost use Rattle.pf_cdb.specs.Sound.{IsSound};
 
-use pf_base::{Bytes, List, NoMemory, Pair, before_byte, behind_byte, decimal};
-use pf_cdb::{Damage, WriteFault, check, elements, find, write};
+use pf_base::{Bytes, NoMemory, before_byte, behind_byte, decimal};
+use pf_cdb::{Damage, WriteFault, Writer, check, elements, find};
 use std::alloc::Global;
 
-// The pairs of a text.
-fn pairs_of(alloc: Global, text: &[u8]) -> Result<List<Pair>, NoMemory> {
-    let mut pairs = List::new(alloc);
+// A writer to which the pairs of a text are added.
+fn with_lines(alloc: Global, text: &[u8]) -> Result<Writer, WriteFault> {
+    let mut writer = Writer::new(alloc)?;
     for line in text.split(|byte| *byte == b'\n') {
         if line.len() > 0 {
-            pairs.push(Pair {
-                key: Bytes::from_slice(alloc, before_byte(line, b' '))?,
-                value: Bytes::from_slice(alloc, behind_byte(line, b' '))?,
-            })?;
+            writer = writer.add(before_byte(line, b' '), behind_byte(line, b' '))?;
         }
     }
-    Ok(pairs)
+    Ok(writer)
+}
+
+fn written(alloc: Global, text: &[u8]) -> Result<Bytes, WriteFault> {
+    Ok(with_lines(alloc, text)?.finish(alloc)?)
 }
 
 /// The file for the pairs of a text.
 pub fn build(alloc: Global, text: &[u8]) -> Result<Bytes, NoMemory> {
-    match write(alloc, &pairs_of(alloc, text)?) {
+    match written(alloc, text) {
         Ok(file) => Ok(file),
         Err(WriteFault::TooLarge) => Bytes::from_slice(alloc, b"too large\n"),
         Err(WriteFault::NoMemory) => Err(NoMemory),

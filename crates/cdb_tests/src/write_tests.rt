@@ -1,6 +1,6 @@
 use crate::files::{pairs, three_pairs};
 use pf_base::{Bytes, List, NoMemory, Pair};
-use pf_cdb::{WriteFault, write};
+use pf_cdb::{WriteFault, Writer, write};
 use std::alloc::Global;
 use std::test::Fail;
 
@@ -55,6 +55,23 @@ fn a_file_that_would_be_too_large_is_not_written(rt: HostRuntime) -> Result<(), 
             Ok(_) => assert!(rt; false, "the file is too large"),
             Err(fault) => assert_eq!(rt; fault, WriteFault::TooLarge),
         }
+    }
+    Ok(())
+}
+
+#[test]
+fn pairs_are_added_one_by_one(rt: HostRuntime) -> Result<(), Fail> {
+    let alloc = rt.alloc();
+    let mut writer = Writer::new(alloc)?;
+    for (key, value) in [("aa", "1"), ("ii", "2"), ("qq", "3")] {
+        writer = writer.add(key.as_bytes(), value.as_bytes())?;
+    }
+    assert_eq!(rt; writer.finish(alloc)?, three_pairs(alloc)?);
+    // the header, the lengths of the record and the two slots of its table have 2,072 bytes
+    let value = vec![in alloc; 0u8; 67_106_793]?;
+    match Writer::new(alloc)?.add(b"", value.as_slice()) {
+        Ok(_) => assert!(rt; false, "the file is too large"),
+        Err(fault) => assert_eq!(rt; fault, WriteFault::TooLarge),
     }
     Ok(())
 }
