@@ -1,0 +1,193 @@
+//! Reads rows of tables of patterns as they are written and of what is said of each, and prints the rows where pf_pcre says
+//! otherwise, and how many rows there were.
+//!
+//! A row is `KIND¦TEXT¦ANSWER`, and a line feed is as `␤`. Of the kind `table` the text is that of a table, and
+//! the answer `table` or the line of its refusal; of the kind `find` a key and from the next line on the text of a table, and
+//! the value or `nothing`; of the kind `octets` the same, the key as numbers of its bytes parted by blanks; of the kind
+//! `results` the text of a table, and its results parted by `,`, or `anything`; of the kind `repeat` a number, on the next
+//! line a text before, on the third one that is as often as that, and on the fourth one after, which together are a
+//! table, and the answer as of the kind `table`; of the kind `deep` how deep the groups of a pattern are nested, and the answer
+//! as of the kind `table`. Rows that begin with `# ` are comments.
+#![tactic(auto)]
+
+use pf_asks::{Found, Results};
+use pf_base::{Bytes, ConfFault, List, NoMemory, cut_at};
+use pf_pcre::{Patterns, PcreTable};
+use std::alloc::Global;
+use std::io;
+
+// The name of each table's file.
+const FILE: &[u8] = b"t";
+
+// The refusal of a file without its line feed.
+fn refusal(alloc: Global, fault: &ConfFault) -> Result<Bytes, NoMemory> {
+    match fault {
+        ConfFault::NoMemory => Err(NoMemory),
+        ConfFault::Refused(refusal) => {
+            let line = refusal.line(alloc)?;
+            match cut_at(line.as_slice(), b'\n') {
+                Some((line, _)) => Bytes::from_slice(alloc, line),
+                None => Bytes::from_slice(alloc, b"no line feed"),
+            }
+        }
+    }
+}
+
+// Whether a text is a table.
+fn judged(alloc: Global, text: &[u8]) -> Result<Bytes, NoMemory> {
+    let mut patterns = Patterns::new();
+    match PcreTable::read(alloc, FILE, text, &mut patterns) {
+        Ok(_) => Bytes::from_slice(alloc, b"table"),
+        Err(fault) => refusal(alloc, &fault),
+    }
+}
+
+// The value of a key.
+fn found(alloc: Global, key: &[u8], text: &[u8]) -> Result<Bytes, NoMemory> {
+    let mut patterns = Patterns::new();
+    match PcreTable::read(alloc, FILE, text, &mut patterns) {
+        Ok(mut table) => match table.find(alloc, key)? {
+            Found::Value(value) => Ok(value),
+            Found::Absent => Bytes::from_slice(alloc, b"nothing"),
+        },
+        Err(fault) => refusal(alloc, &fault),
+    }
+}
+
+// The bytes that numbers parted by blanks name.
+fn octets(alloc: Global, text: &[u8]) -> Result<Bytes, NoMemory> {
+    let mut bytes = Bytes::new(alloc);
+    for word in text.split(|b| *b == b' ') {
+        if let Ok(word) = str::from_utf8(word) {
+            if let Ok(number) = word.parse::<u8>() {
+                bytes.push(number)?;
+            }
+        }
+    }
+    Ok(bytes)
+}
+
+// Values parted by commas.
+fn joined(alloc: Global, values: &List<Bytes>) -> Result<Bytes, NoMemory> {
+    let mut text = Bytes::new(alloc);
+    for (i, value) in values.as_slice().iter().enumerate() {
+        if i > 0 {
+            text.push(b',')?;
+        }
+        text.extend(value.as_slice())?;
+    }
+    Ok(text)
+}
+
+fn results(alloc: Global, text: &[u8]) -> Result<Bytes, NoMemory> {
+    let mut patterns = Patterns::new();
+    match PcreTable::read(alloc, FILE, text, &mut patterns) {
+        Ok(table) => match table.results(alloc)? {
+            Results::Anything => Bytes::from_slice(alloc, b"anything"),
+            Results::Listed(values) => joined(alloc, &values),
+        },
+        Err(fault) => refusal(alloc, &fault),
+    }
+}
+
+// The first line of a text, and the others.
+fn parted(text: &[u8]) -> (&[u8], &[u8]) {
+    cut_at(text, b'\n').unwrap_or((text, b""))
+}
+
+// A text in which one part is so often.
+fn repeated(alloc: Global, text: &[u8]) -> Result<Bytes, NoMemory> {
+    let (number, rest) = parted(text);
+    let (before, rest) = parted(rest);
+    let (part, behind) = parted(rest);
+    let mut text = Bytes::from_slice(alloc, before)?;
+    if let Ok(number) = str::from_utf8(number) {
+        if let Ok(number) = number.parse::<u16>() {
+            for _ in 0..number {
+                for b in part {
+                    text.push(if *b == b'~' { b'\n' } else { *b })?;
+                }
+            }
+        }
+    }
+    text.extend(behind)?;
+    Ok(text)
+}
+
+// A table whose pattern is groups in groups, nested so deep.
+fn nested(alloc: Global, text: &[u8]) -> Result<Bytes, NoMemory> {
+    let mut table = Bytes::from_slice(alloc, b"/")?;
+    if let Ok(number) = str::from_utf8(text) {
+        if let Ok(number) = number.parse::<u16>() {
+            for _ in 0..number {
+                table.push(b'(')?;
+            }
+            for _ in 0..number {
+                table.push(b')')?;
+            }
+        }
+    }
+    table.extend(b"/ y")?;
+    Ok(table)
+}
+
+// What is said of a text.
+fn said(alloc: Global, kind: &str, text: &[u8]) -> Result<Bytes, NoMemory> {
+    match kind {
+        "table" => judged(alloc, text),
+        "find" => {
+            let (key, table) = parted(text);
+            found(alloc, key, table)
+        }
+        "octets" => {
+            let (key, table) = parted(text);
+            let key = octets(alloc, key)?;
+            found(alloc, key.as_slice(), table)
+        }
+        "results" => results(alloc, text),
+        "repeat" => {
+            let text = repeated(alloc, text)?;
+            judged(alloc, text.as_slice())
+        }
+        "deep" => {
+            let text = nested(alloc, text)?;
+            judged(alloc, text.as_slice())
+        }
+        _ => Bytes::from_slice(alloc, b"no such kind of row"),
+    }
+}
+
+// Prints a row where something else is said of its text.
+fn look_at(rt: &HostRuntime, alloc: Global, row: &str) -> io::Result<()> {
+    let Some((kind, rest)) = row.split_once('¦') else {
+        return println!(rt; "no row: {row}");
+    };
+    let Some((text, answer)) = rest.split_once('¦') else {
+        return println!(rt; "no row: {row}");
+    };
+    let text = text.replace(alloc, '␤', "\n")?;
+    let answer = answer.replace(alloc, '␤', "\n")?;
+    match said(alloc, kind, text.as_bytes()) {
+        Ok(bytes) => {
+            if bytes.as_slice() != answer.as_bytes() {
+                println!(rt; "not so: {row}")?;
+            }
+        }
+        Err(NoMemory) => println!(rt; "no memory: {row}")?,
+    }
+    Ok(())
+}
+
+fn main(rt: HostRuntime) -> io::Result<()> {
+    let alloc = rt.alloc();
+    let mut rows: u64 = 0;
+    for line in rt.lines(alloc) {
+        let line = line?;
+        if line.as_str().starts_with("# ") {
+            continue;
+        }
+        look_at(&rt, alloc, line.as_str())?;
+        rows = rows.saturating_add(1);
+    }
+    println!(rt; "{rows} rows")
+}
