@@ -1,4 +1,5 @@
 -- Words of contracts, between the code and the definitions.
+pub mod Faults
 pub mod FileParts
 pub mod Prefixes
 pub mod Gathering

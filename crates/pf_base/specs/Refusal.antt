@@ -7,6 +7,10 @@ use Rattle.pf_base.specs.declared.refused.Cause.{Cause}
 use Rattle.pf_base.specs.declared.refused.Cause.TheVariants.{C1, C2, C3, C4, C5, C6, C7, C8, C9, C10, C11, C12, C13, C14, C15, C16}
 use Rattle.pf_base.specs.declared.refused.Refused.{Refused}
 
+-- a refusal, with its file, its line, its cause and what it names
+abbrev pub refused : List ℕ → ℕ → Cause → List ℕ → Refused
+refused file line cause name = record { file = file; line = line; cause = cause; name = name }
+
 -- the code and the text of a cause
 unfoldable pub cause_text : Cause → List ℕ
 cause_text C1 = codes "C1 continuation of nothing"

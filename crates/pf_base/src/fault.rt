@@ -29,3 +29,14 @@ pub enum OuterFault {
     /// The object found no memory, and its count stayed.
     NoMemory,
 }
+
+impl From<NoMemory> for OuterFault {
+    ghost use Rattle.std.specs.Prelude.{◌≡◌};
+    ghost use Rattle.pf_base.specs.declared.fault.OuterFault.TheVariants.{NoMemory};
+
+    ghost from_gives = { λ _ fault. fault ≡ NoMemory };
+
+    fn from(_: NoMemory) -> OuterFault {
+        OuterFault::NoMemory
+    }
+}

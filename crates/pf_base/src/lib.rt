@@ -23,7 +23,7 @@ pub use outside::texts::{
 };
 pub use outside::{Files, Sink, Source, status};
 pub use pair::Pair;
-pub use refused::{Cause, ConfFault, Refused};
+pub use refused::{Cause, ConfFault, Refused, refuse};
 pub use table_texts::{Specs, TableId};
 pub use text::braces::closing_brace;
 pub use text::cuts::{before_byte, behind_byte, cut_at};

@@ -1,5 +1,5 @@
 //! Why a configuration or a table is refused, and where.
-ghost use Rattle.std.specs.Prelude.{◌≡◌, IfOk};
+ghost use Rattle.std.specs.Prelude.{◌≡◌, ◌≢◌, IfOk};
 ghost use Rattle.pf_base.specs.Refusal as refusal;
 
 use crate::bytes::Bytes;
@@ -61,6 +61,44 @@ pub enum ConfFault {
     Refused(Refused),
     /// Memory was wanting.
     NoMemory,
+}
+
+impl From<NoMemory> for ConfFault {
+    ghost use Rattle.std.specs.Prelude.{◌≡◌};
+    ghost use Rattle.pf_base.specs.declared.refused.ConfFault.TheVariants.{NoMemory};
+
+    ghost from_gives = { λ _ fault. fault ≡ NoMemory };
+
+    fn from(_: NoMemory) -> ConfFault {
+        ConfFault::NoMemory
+    }
+}
+
+fn refusal_of(
+    alloc: Global,
+    file: &[u8],
+    line: u64,
+    cause: Cause,
+    name: &[u8],
+) -> Result<Refused, NoMemory>
+    ensures { IfOk result (λ refused. refused ≡ refusal.refused file.now line cause name.now) }
+{
+    Ok(Refused {
+        file: Bytes::from_slice(alloc, file)?,
+        line,
+        cause,
+        name: Bytes::from_slice(alloc, name)?,
+    })
+}
+
+/// The refusal of a file at this line, for this cause and with what it names; or there is no memory for it.
+pub fn refuse(alloc: Global, file: &[u8], line: u64, cause: Cause, name: &[u8]) -> ConfFault
+    ensures { result ≢ ConfFault.NoMemory → result ≡ ConfFault.Refused (refusal.refused file.now line cause name.now) }
+{
+    match refusal_of(alloc, file, line, cause, name) {
+        Ok(refused) => ConfFault::Refused(refused),
+        Err(NoMemory) => ConfFault::NoMemory,
+    }
 }
 
 #[tactic(auto, unfolding(crate::specs::Refusal::cause_text))]

@@ -222,10 +222,8 @@ impl Sink for MemSink {
         if self.schedule.next() {
             return Err(OuterFault::Failed);
         }
-        match self.bytes.extend(piece) {
-            Ok(()) => Ok(()),
-            Err(NoMemory) => Err(OuterFault::NoMemory),
-        }
+        self.bytes.extend(piece)?;
+        Ok(())
     }
 }
 
@@ -353,9 +351,7 @@ impl Files for MemFiles {
         if self.schedule.next() {
             return Err(OuterFault::Failed);
         }
-        match self.put(name, bytes) {
-            Ok(()) => Ok(()),
-            Err(NoMemory) => Err(OuterFault::NoMemory),
-        }
+        self.put(name, bytes)?;
+        Ok(())
     }
 }

@@ -6,13 +6,16 @@ ghost use Rattle.pf_base.specs.Outside.Known.{ReadsWhole};
 ghost use Rattle.pf_base.specs.declared.pair.Pair.{Pair};
 
 use crate::bytes::Bytes;
-use crate::fault::Failed;
+use crate::fault::{Failed, NoMemory};
 use crate::outside::Files;
 use std::alloc::Global;
 use thiserror::Error;
 
 /// The most bytes that a file may have: 64 MiB, postgate's own limit.
 pub const FILE_LIMIT: u64 = 67_108_864;
+
+// The most bytes that are read at once.
+const PART_SIZE: usize = 4096;
 
 /// Why a file was not read.
 #[derive(Clone, Copy, Debug, PartialEq, Eq, Drop, Error)]
@@ -26,6 +29,17 @@ pub enum ReadFault {
     /// Memory was wanting.
     #[error("no memory")]
     NoMemory,
+}
+
+impl From<NoMemory> for ReadFault {
+    ghost use Rattle.std.specs.Prelude.{◌≡◌};
+    ghost use Rattle.pf_base.specs.declared.outside.reading.ReadFault.TheVariants.{NoMemory};
+
+    ghost from_gives = { λ _ fault. fault ≡ NoMemory };
+
+    fn from(_: NoMemory) -> ReadFault {
+        ReadFault::NoMemory
+    }
 }
 
 // Adds the next bytes of the file, up to so many in all, and says how many they are.
@@ -43,15 +57,13 @@ fn read_part<F: Files>(
     ensures not_large { result ≢ Err ReadFault.TooLarge }
     ensures tree { ReadsWhole (F.known files.old) (F.known files.new) result }
 {
-    let mut buf = [0u8; 4096];
-    let room = (size - bytes.len()).min(4096) as usize;
+    let mut buf = [0u8; PART_SIZE];
+    let room = (size - bytes.len()).min(PART_SIZE as u64) as usize;
     let part = &mut buf[..room];
     let Ok(count) = files.read_at(name, bytes.len(), part) else {
         return Err(ReadFault::Failed);
     };
-    let Ok(()) = bytes.extend(&part[..count]) else {
-        return Err(ReadFault::NoMemory);
-    };
+    bytes.extend(&part[..count])?;
     Ok(count)
 }
 

@@ -33,6 +33,17 @@ pub enum TextFault {
     NoMemory,
 }
 
+impl From<NoMemory> for TextFault {
+    ghost use Rattle.std.specs.Prelude.{◌≡◌};
+    ghost use Rattle.pf_base.specs.declared.text.logical.TextFault.TheVariants.{NoMemory};
+
+    ghost from_gives = { λ _ fault. fault ≡ NoMemory };
+
+    fn from(_: NoMemory) -> TextFault {
+        TextFault::NoMemory
+    }
+}
+
 /// Whether a physical line counts for nothing: it is empty, all space, or a comment, whose first byte past space is `#`
 /// (postconf(5), main.cf format).
 pub fn is_ignored(text: &[u8]) -> bool
@@ -99,13 +110,9 @@ impl Gathered {
     fn into_lines(mut self) -> Result<List<Logical>, TextFault>
         ensures { Unless result TextFault.NoMemory (λ r. r ≡ Ok (self.closed ++ option_to_list self.last)) }
     {
-        match self.close() {
-            Ok(()) => {
-                let Gathered { closed, last: _ } = self;
-                Ok(closed)
-            }
-            Err(NoMemory) => Err(TextFault::NoMemory),
-        }
+        self.close()?;
+        let Gathered { closed, last: _ } = self;
+        Ok(closed)
     }
 
     // Takes a line that starts with space: it continues the last one.
@@ -115,9 +122,7 @@ impl Gathered {
         match &mut self.last {
             None => Err(TextFault::Continuation { line: number }),
             Some(last) => {
-                let Ok(()) = last.text.extend(text) else {
-                    return Err(TextFault::NoMemory);
-                };
+                last.text.extend(text)?;
                 last.last = number;
                 Ok(())
             }
@@ -136,10 +141,8 @@ impl Gathered {
         if starts_with_space(text) {
             return self.go_on(number, text);
         }
-        match self.begin(alloc, number, text) {
-            Ok(()) => Ok(()),
-            Err(NoMemory) => Err(TextFault::NoMemory),
-        }
+        self.begin(alloc, number, text)?;
+        Ok(())
     }
 }
 

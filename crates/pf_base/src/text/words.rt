@@ -23,6 +23,17 @@ pub enum WordsFault {
     NoMemory,
 }
 
+impl From<NoMemory> for WordsFault {
+    ghost use Rattle.std.specs.Prelude.{◌≡◌};
+    ghost use Rattle.pf_base.specs.declared.text.words.WordsFault.TheVariants.{NoMemory};
+
+    ghost from_gives = { λ _ fault. fault ≡ NoMemory };
+
+    fn from(_: NoMemory) -> WordsFault {
+        WordsFault::NoMemory
+    }
+}
+
 fn is_separator(b: u8) -> bool
     ensures { result ≡ spec.is_separator b }
 {
@@ -97,8 +108,6 @@ pub fn words_of(alloc: Global, value: &[u8]) -> Result<List<Bytes>, WordsFault>
     if let Some(at) = lone_brace(value) {
         return Err(WordsFault::Unbalanced { at: at as u64 });
     }
-    match words_in(alloc, value) {
-        Ok(words) => Ok(words),
-        Err(NoMemory) => Err(WordsFault::NoMemory),
-    }
+    let words = words_in(alloc, value)?;
+    Ok(words)
 }
