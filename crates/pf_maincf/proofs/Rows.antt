@@ -10,7 +10,8 @@ use Rattle.pf_base.specs.declared.outside.reading.ReadFault.TheVariants.{TooLarg
 use Rattle.pf_base.specs.declared.refused.Cause.TheVariants.{C1, C2, C3, C10, C15}
 use Rattle.pf_maincf.specs.Edit.{AreSets, Line, blocks_from, differ, edited, edited_by, is_ended, is_writable, lines_in, placed, set_line}
 use Rattle.pf_maincf.specs.File.{bytes_in, conf_name, failed_line, text_read}
-use Rattle.pf_maincf.specs.Settings.{conf_of, conf_with, is_name, is_name_byte, last_setting, or_refused, refused, setting_of, settings_in, settings_of}
+use Rattle.pf_base.specs.Refusal.{refused}
+use Rattle.pf_maincf.specs.Settings.{conf_of, conf_with, is_name, is_name_byte, last_setting, or_refused, setting_of, settings_in, settings_of}
 use Rattle.pf_maincf.specs.declared.setting.Setting.{Setting}
 
 -- two settings, and a line without an equals sign
@@ -60,7 +61,7 @@ bytes_of_names : map is_name_byte (32 ∷ 33 ∷ 126 ∷ 127 ∷
 bytes_of_names = refl
 
 -- refusals
-names_nothing : refused (codes "main.cf") 5 C2 ≡ record { file = codes "main.cf"; line = 5; cause = C2; name = [] }
+names_nothing : refused (codes "main.cf") 5 C2 [] ≡ record { file = codes "main.cf"; line = 5; cause = C2; name = [] }
 names_nothing = refl
 
 -- a setting or its refusal
@@ -108,7 +109,7 @@ continuation_is_refused = refl
 settings_there : conf_with (codes "main.cf") (Ok (first ∷ [])) ≡ Ok (record { file = codes "main.cf"; settings = first ∷ [] })
 settings_there = refl
 
-refusal_instead : conf_with (codes "main.cf") (Err (refused (codes "main.cf") 5 C2)) ≡ Err (refused (codes "main.cf") 5 C2)
+refusal_instead : conf_with (codes "main.cf") (Err (refused (codes "main.cf") 5 C2 [])) ≡ Err (refused (codes "main.cf") 5 C2 [])
 refusal_instead = refl
 
 -- texts

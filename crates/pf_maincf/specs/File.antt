@@ -2,6 +2,7 @@
 -- files that failed are postgate's own.
 use Rattle.std.specs.Prelude.{◌≡◌, ℕ, ◌++◌, List, Option, None, Some, Result, Ok, Err, codes, if◌then◌else◌}
 use Rattle.std.specs.Str.{is_utf8}
+use Rattle.pf_base.specs.Refusal.{refused}
 use Rattle.pf_base.specs.Outside.FileList.{file_of, whole_file}
 use Rattle.pf_base.specs.Text.Printing.{printed_line}
 use Rattle.pf_base.specs.Outside.Known.{Tree}
@@ -22,7 +23,7 @@ bytes_in files file = if is_utf8 file then file_of files file else None
 
 -- the refusal of a whole file, which names it
 abbrev pub file_refused : List ℕ → Cause → Refused
-file_refused file cause = record { file = file; line = 0; cause = cause; name = file }
+file_refused file cause = refused file 0 cause file
 
 -- the text of a main.cf of this name by what is read of a whole file: it is refused where it is not there, or too large
 abbrev pub text_read : List ℕ → Result (Option (List ℕ)) ReadFault → Result (List ℕ) Refused

@@ -5,10 +5,10 @@ use Rattle.std.specs.Option.{option_map, option_map_or}
 use Rattle.std.specs.Str.{bytes_eq}
 use Rattle.pf_base.specs.Text.Ascii as ascii
 use Rattle.pf_base.specs.Text.Logical.{Grouped, Physical, grouped, physical_lines}
+use Rattle.pf_base.specs.Refusal.{refused}
 use Rattle.pf_base.specs.Results.{◌>>=◌}
 use Rattle.pf_base.specs.Text.Space.{trimmed}
 use Rattle.pf_base.specs.declared.text.logical.Logical.{Logical}
-use Rattle.pf_base.specs.declared.refused.Cause.{Cause}
 use Rattle.pf_base.specs.declared.refused.Cause.TheVariants.{C1, C2, C3}
 use Rattle.pf_base.specs.declared.refused.Refused.{Refused}
 use Rattle.pf_maincf.specs.declared.setting.Setting.{Setting}
@@ -33,14 +33,10 @@ is_name_byte b = nat_le 33 b && nat_le b 126 && not (b == ascii.dollar_sign || b
 abbrev pub is_name : List ℕ → Bool
 is_name name = nat_lt 0 (length name) && list_all is_name_byte name
 
--- a refusal that names nothing
-abbrev pub refused : List ℕ → ℕ → Cause → Refused
-refused file line cause = record { file = file; line = line; cause = cause; name = [] }
-
 -- the setting of a line, or the refusal of one without an equals sign or with a bad name
 abbrev pub or_refused : List ℕ → Logical → Option Setting → Result Setting Refused
-or_refused file logical None = Err (refused file logical.line C2)
-or_refused file logical (Some setting) = if is_name setting.name then Ok setting else Err (refused file logical.line C3)
+or_refused file logical None = Err (refused file logical.line C2 [])
+or_refused file logical (Some setting) = if is_name setting.name then Ok setting else Err (refused file logical.line C3 [])
 
 -- the settings of logical lines in order, or the first of the lines that is refused
 abbrev pub settings_of : List ℕ → List Logical → Result (List Setting) Refused
@@ -53,7 +49,7 @@ settings_of file (logical ∷ lines) = do
 -- settings, unless lines before them continue nothing
 abbrev pub unless_continued : List ℕ → List Physical → Result (List Setting) Refused → Result (List Setting) Refused
 unless_continued file [] settings = settings
-unless_continued file (line ∷ lines) settings = Err (refused file line.number C1)
+unless_continued file (line ∷ lines) settings = Err (refused file line.number C1 [])
 
 -- the settings of a text whose lines are grouped so, or the first of its lines that is refused
 abbrev pub settings_in : List ℕ → Grouped → Result (List Setting) Refused

@@ -6,7 +6,7 @@ ghost use Rattle.pf_base.specs.Clauses.Unless.{Unless};
 ghost use Rattle.pf_maincf.specs.Edit as edit;
 ghost use Rattle.pf_maincf.specs.Edit.{AreSets, IsEditOf, edited, set_line, with_line};
 ghost use Rattle.pf_maincf.specs.Clauses.Editing as editing;
-ghost use Rattle.pf_maincf.specs.Clauses.Faults.{as_fault};
+ghost use Rattle.pf_base.specs.Clauses.Faults.{as_fault};
 
 use crate::maincf::MainCf;
 use crate::setting::Setting;
@@ -187,9 +187,7 @@ impl MainCf {
         ensures values { IfOk result (λ after. IsEditOf file.now text.now after sets.now) }
     {
         let conf = MainCf::read(alloc, file, text)?;
-        match edited_text(alloc, &conf, sets.as_slice(), text) {
-            Ok(edited) => Ok(edited),
-            Err(NoMemory) => Err(ConfFault::NoMemory),
-        }
+        let edited = edited_text(alloc, &conf, sets.as_slice(), text)?;
+        Ok(edited)
     }
 }

@@ -7,7 +7,9 @@ ghost use Rattle.pf_maincf.specs.Clauses.Faults.{Answers};
 ghost use Rattle.pf_maincf.specs.File as spec;
 ghost use Rattle.pf_maincf.specs.File.{Kept, bytes_in};
 
-use pf_base::{Bytes, Cause, Files, NoMemory, ReadFault, Refused, add_line, read_all};
+use pf_base::{
+    Bytes, Cause, ConfFault, Files, NoMemory, ReadFault, Refused, add_line, read_all, refuse,
+};
 use std::alloc::Global;
 
 /// Why main.cf is not accepted.
@@ -19,6 +21,20 @@ pub enum FileFault {
     Failed,
     /// Memory was wanting.
     NoMemory,
+}
+
+impl From<ConfFault> for FileFault {
+    ghost use Rattle.std.specs.Prelude.{◌≡◌};
+    ghost use Rattle.pf_maincf.specs.Clauses.Faults.{as_file_fault};
+
+    ghost from_gives = { λ conf fault. fault ≡ as_file_fault conf };
+
+    fn from(fault: ConfFault) -> FileFault {
+        match fault {
+            ConfFault::Refused(refusal) => FileFault::Refused(refusal),
+            ConfFault::NoMemory => FileFault::NoMemory,
+        }
+    }
 }
 
 /// The name of main.cf in the folder of `-c`, as both are, with `/` between them; `main.cf` alone where there is none
@@ -53,18 +69,7 @@ fn file_refused(alloc: Global, file: &[u8], cause: Cause) -> Result<Bytes, FileF
     ensures nothing { IfOk result (λ text. ⊥) }
     ensures files { result ≢ Err FileFault.Failed }
 {
-    let Ok(name) = Bytes::from_slice(alloc, file) else {
-        return Err(FileFault::NoMemory);
-    };
-    match Bytes::from_slice(alloc, file) {
-        Err(NoMemory) => Err(FileFault::NoMemory),
-        Ok(file) => Err(FileFault::Refused(Refused {
-            file,
-            line: 0,
-            cause,
-            name,
-        })),
-    }
+    Err(FileFault::from(refuse(alloc, file, 0, cause, file)))
 }
 
 /// The text of the main.cf of this name; a name that is no UTF-8 is that of no file. `Failed` comes only where the count of faults of

@@ -1,16 +1,14 @@
 //! A main.cf that was read.
-ghost use Rattle.std.specs.Prelude.{◌≡◌, ◌≢◌, slice_get, IfOk};
+ghost use Rattle.std.specs.Prelude.{◌≡◌, slice_get, IfOk};
 ghost use Rattle.std.specs.Option.{option_and_then, option_copied};
 ghost use Rattle.pf_base.specs.Clauses.Unless.{Unless};
-ghost use Rattle.pf_maincf.specs.Clauses.Faults.{as_fault};
+ghost use Rattle.pf_base.specs.Clauses.Faults.{as_fault};
 ghost use Rattle.pf_maincf.specs.Settings as settings;
 ghost use Rattle.pf_maincf.specs.Settings.{conf_of, last_setting};
 
 use crate::places::{Places, places_of};
 use crate::setting::{Setting, is_name, setting_of};
-use pf_base::{
-    Bytes, Cause, ConfFault, List, Logical, NoMemory, Refused, TextFault, logical_lines,
-};
+use pf_base::{Bytes, Cause, ConfFault, List, Logical, NoMemory, TextFault, logical_lines, refuse};
 use std::alloc::Global;
 use std::marker::Model;
 
@@ -33,39 +31,19 @@ impl Model for MainCf {
     ghost invariant = { λ conf. AreLast (place_in conf.places) conf.settings };
 }
 
-// A refusal that names nothing.
-fn refused(alloc: Global, file: &[u8], line: u64, cause: Cause) -> ConfFault
-    ensures { result ≢ ConfFault.NoMemory → result ≡ ConfFault.Refused (settings.refused file.now line cause) }
-{
-    match Bytes::from_slice(alloc, file) {
-        Ok(file) => ConfFault::Refused(Refused {
-            file,
-            line,
-            cause,
-            name: Bytes::new(alloc),
-        }),
-        Err(NoMemory) => ConfFault::NoMemory,
-    }
-}
-
 // The settings of logical lines in order.
 fn settings_of(alloc: Global, file: &[u8], lines: &[Logical]) -> Result<List<Setting>, ConfFault>
     ensures { Unless result ConfFault.NoMemory (λ r. r ≡ as_fault (settings.settings_of file.now lines.now)) }
 {
     let mut settings = List::new(alloc);
     for logical in lines {
-        match setting_of(alloc, logical) {
-            Ok(Some(setting)) => {
-                if !is_name(setting.name.as_slice()) {
-                    return Err(refused(alloc, file, logical.line, Cause::C3));
-                }
-                let Ok(()) = settings.push(setting) else {
-                    return Err(ConfFault::NoMemory);
-                };
-            }
-            Ok(None) => return Err(refused(alloc, file, logical.line, Cause::C2)),
-            Err(NoMemory) => return Err(ConfFault::NoMemory),
+        let Some(setting) = setting_of(alloc, logical)? else {
+            return Err(refuse(alloc, file, logical.line, Cause::C2, b""));
+        };
+        if !is_name(setting.name.as_slice()) {
+            return Err(refuse(alloc, file, logical.line, Cause::C3, b""));
         }
+        settings.push(setting)?;
     }
     Ok(settings)
 }
@@ -109,19 +87,14 @@ impl MainCf {
     {
         let lines = match logical_lines(alloc, text) {
             Ok(lines) => lines,
-            Err(TextFault::Continuation { line }) => return Err(refused(
-                alloc,
-                file,
-                line,
-                Cause::C1,
-            )),
+            Err(TextFault::Continuation { line }) => {
+                return Err(refuse(alloc, file, line, Cause::C1, b""));
+            }
             Err(TextFault::NoMemory) => return Err(ConfFault::NoMemory),
         };
         let settings = settings_of(alloc, file, lines.as_slice())?;
-        match conf_with(alloc, file, settings) {
-            Ok(conf) => Ok(conf),
-            Err(NoMemory) => Err(ConfFault::NoMemory),
-        }
+        let conf = conf_with(alloc, file, settings)?;
+        Ok(conf)
     }
 
     /// The name of the file, as it was handed in.

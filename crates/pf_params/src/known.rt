@@ -3,7 +3,7 @@ ghost use Rattle.std.specs.Prelude.{◌≡◌, ◌++◌, map, IfOk, OnOk};
 ghost use Rattle.std.specs.Option.{option_copied};
 ghost use Rattle.pf_base.specs.Clauses.Unless.{Unless};
 ghost use Rattle.pf_expand.specs.Names.{expanded};
-ghost use Rattle.pf_maincf.specs.Clauses.Faults.{as_fault};
+ghost use Rattle.pf_base.specs.Clauses.Faults.{as_fault};
 ghost use Rattle.pf_maincf.specs.Settings.{is_set, last_setting, line_of};
 ghost use Rattle.pf_params.specs.Settled as spec;
 

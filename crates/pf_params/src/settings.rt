@@ -7,7 +7,7 @@ ghost use Rattle.pf_catalogue.specs.Catalogue.{row_at};
 ghost use Rattle.pf_catalogue.specs.Values.{IsNumberOf, are_items};
 ghost use Rattle.pf_catalogue.specs.declared.kind.Kind.TheVariants as kind;
 ghost use Rattle.pf_catalogue.specs.declared.value.Value.TheVariants as value;
-ghost use Rattle.pf_maincf.specs.Clauses.Faults.{as_fault};
+ghost use Rattle.pf_base.specs.Clauses.Faults.{as_fault};
 ghost use Rattle.pf_maincf.specs.Settings.{line_of};
 ghost use Rattle.pf_params.specs.Accepted as spec;
 ghost use Rattle.pf_params.specs.Clauses.Readings as turns;

@@ -9,7 +9,7 @@ use Rattle.pf_expand.specs.Forms.{first_part, form_of}
 use Rattle.pf_base.specs.Meanings.{Source}
 use Rattle.pf_base.specs.declared.meaning.Meaning.TheVariants.{Is, DomainOf}
 use Rattle.pf_expand.specs.Names.{depth_limit, domain_in, domain_of, name_value, past_dot, source_value}
-use Rattle.pf_maincf.specs.Clauses.Faults.{as_fault}
+use Rattle.pf_base.specs.Clauses.Faults.{as_fault}
 use Rattle.pf_maincf.specs.Settings.{Conf}
 use Rattle.pf_params.specs.Settled as settled
 use Rattle.pf_params.specs.Settled.{or_refused, settled_source}

@@ -1,7 +1,7 @@
 //! The lines that are printed, and the warnings.
 ghost use Rattle.std.specs.Prelude.{◌≡◌, ◌++◌, IfOk, OnOk};
 ghost use Rattle.pf_base.specs.Clauses.Unless.{Unless};
-ghost use Rattle.pf_maincf.specs.Clauses.Faults.{as_fault};
+ghost use Rattle.pf_base.specs.Clauses.Faults.{as_fault};
 ghost use Rattle.pf_tools.specs.Printed as spec;
 
 use crate::asked::{is_known, is_shown};

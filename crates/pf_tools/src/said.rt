@@ -1,7 +1,7 @@
 //! What is said of a main.cf.
 ghost use Rattle.std.specs.Prelude.{◌≡◌, true, false, IfOk};
 ghost use Rattle.pf_base.specs.Clauses.Unless.{Unless};
-ghost use Rattle.pf_maincf.specs.Clauses.Faults.{as_fault};
+ghost use Rattle.pf_base.specs.Clauses.Faults.{as_fault};
 ghost use Rattle.pf_maincf.specs.Edit.{AreSets};
 ghost use Rattle.pf_tools.specs.Asked.{asked_names};
 ghost use Rattle.pf_tools.specs.Said as spec;

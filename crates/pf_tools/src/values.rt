@@ -5,7 +5,7 @@ ghost use Rattle.std.specs.Option.{option_copied, option_map_or};
 ghost use Rattle.pf_base.specs.Text.Ascii as ascii;
 ghost use Rattle.pf_base.specs.Clauses.Unless.{Unless};
 ghost use Rattle.pf_base.specs.declared.meaning.Meaning.TheVariants.{Is, DomainOf};
-ghost use Rattle.pf_maincf.specs.Clauses.Faults.{as_fault};
+ghost use Rattle.pf_base.specs.Clauses.Faults.{as_fault};
 ghost use Rattle.pf_expand.specs.Names as names;
 ghost use Rattle.pf_params.specs.Settled.{or_refused};
 ghost use Rattle.pf_params.specs.Sources.{default_value_of};

@@ -2,7 +2,7 @@
 ghost use Rattle.std.specs.Prelude.{◌≡◌, [], IfOk, codes};
 ghost use Rattle.std.specs.Option.{unwrap_or};
 ghost use Rattle.pf_base.specs.Clauses.Unless.{Unless};
-ghost use Rattle.pf_maincf.specs.Clauses.Faults.{as_fault};
+ghost use Rattle.pf_base.specs.Clauses.Faults.{as_fault};
 ghost use Rattle.pf_top.specs.Opening as opening;
 ghost use Rattle.pf_top.specs.Refusals as refusals;
 ghost use Rattle.pf_top.specs.Values as values;

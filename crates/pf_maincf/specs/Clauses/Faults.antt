@@ -6,10 +6,10 @@ use Rattle.pf_base.specs.declared.refused.Refused.{Refused}
 use Rattle.pf_maincf.specs.declared.file.FileFault.{FileFault}
 use Rattle.pf_maincf.specs.declared.file.FileFault.TheVariants as file_fault
 
--- what is there, or the fault that is its refusal
-abbrev pub as_fault : {A : Type 0} → Result A Refused → Result A ConfFault
-as_fault (Ok x) = Ok x
-as_fault (Err refusal) = Err (conf_fault.Refused refusal)
+-- the fault of a text of a file as that of the file
+abbrev pub as_file_fault : ConfFault → FileFault
+as_file_fault (conf_fault.Refused refusal) = file_fault.Refused refusal
+as_file_fault conf_fault.NoMemory = file_fault.NoMemory
 
 -- an answer of the code is what is said; a failed call on the files and lack of memory are free
 abbrev pub Answers : {A : Type 0} → Result A Refused → Result A FileFault → Type 0

@@ -11,12 +11,12 @@ returns-in_err-conf-clause-is c =
     let p = err_from_is_err_and c.from_residual.result c.from_residual.ensures.1 in
     rw (p.1, p.2) (λ memory. edit_fault c.args.sets.now c.args.text.now _ _ (c.in_err-conf.ensures memory))
 
-pub returns-in-Ok-clause-is : goal.returns-in-Ok-clause-is
+pub returns-clause-is : goal.returns-clause-is
 unfolding edited
-returns-in-Ok-clause-is c = rw (there _ _ c.in_ok-conf.ensures, ← c.as_slice.ensures, c.in-Ok.ensures)
+returns-clause-is c = rw (there _ _ c.in_ok-conf.ensures, ← c.as_slice.ensures, c.in_ok-edited.ensures)
 
-pub returns-in-Ok-clause-values : goal.returns-in-Ok-clause-values
+pub returns-clause-values : goal.returns-clause-values
 unfolding edited
-returns-in-Ok-clause-values c =
-    edit_sets c.args.file.now c.args.text.now c.in-Ok.edited c.args.sets.now c.requires
-    (rw (there _ _ c.in_ok-conf.ensures, ← c.as_slice.ensures, c.in-Ok.ensures) refl)
+returns-clause-values c =
+    edit_sets c.args.file.now c.args.text.now c.in_ok-edited.edited c.args.sets.now c.requires
+    (rw (there _ _ c.in_ok-conf.ensures, ← c.as_slice.ensures, c.in_ok-edited.ensures) refl)
