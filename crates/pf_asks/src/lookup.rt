@@ -4,7 +4,7 @@ ghost use Rattle.pf_base.specs.Clauses.Unless.{Unless};
 ghost use Rattle.pf_asks.specs.Clauses.Held.{Answered};
 ghost use Rattle.pf_asks.specs.Looking.{HasAll, Tables, Values, listed, listing_failed, look_failed, looked_up, results_of, value_of};
 
-use pf_base::{Bytes, List, TableId};
+use pf_base::{Bytes, List, NoMemory, TableId};
 use std::alloc::Global;
 
 /// What a table has for a key (DATABASE_README).
@@ -34,6 +34,17 @@ pub enum TableFault {
     Failed,
     /// Memory was wanting.
     NoMemory,
+}
+
+impl From<NoMemory> for TableFault {
+    ghost use Rattle.std.specs.Prelude.{◌≡◌};
+    ghost use Rattle.pf_asks.specs.declared.lookup.TableFault.TheVariants.{NoMemory};
+
+    ghost from_gives = { λ _ fault. fault ≡ NoMemory };
+
+    fn from(_: NoMemory) -> TableFault {
+        TableFault::NoMemory
+    }
 }
 
 /// Tables under their places, from 0.

@@ -184,9 +184,7 @@ impl Resolver for MemResolver {
         if self.schedule.next() {
             return Err(AskFault::Failed);
         }
-        match answer_of(alloc, self.rows.as_slice(), name, kind) {
-            Ok(answer) => Ok(answer),
-            Err(NoMemory) => Err(AskFault::NoMemory),
-        }
+        let answer = answer_of(alloc, self.rows.as_slice(), name, kind)?;
+        Ok(answer)
     }
 }

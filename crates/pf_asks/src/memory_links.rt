@@ -195,10 +195,8 @@ impl Links for MemLinks {
             self.fail();
             return Err(OuterFault::Failed);
         }
-        match self.request.text.extend(piece) {
-            Ok(()) => Ok(()),
-            Err(NoMemory) => Err(OuterFault::NoMemory),
-        }
+        self.request.text.extend(piece)?;
+        Ok(())
     }
 
     /// Fills the buffer, or reads up to the end of the reply.

@@ -5,7 +5,7 @@ ghost use Rattle.pf_asks.specs.Resolving.{HasValues, answer_of, ask_failed};
 ghost use Rattle.pf_asks.specs.declared.resolver.Row.{Row};
 ghost use Rattle.std.specs.Prelude.{◌≡◌, List as Seq, IfOk};
 
-use pf_base::{Bytes, List};
+use pf_base::{Bytes, List, NoMemory};
 use std::alloc::Global;
 
 /// The kind of a resource record (RFC 1035, 3.2.2; RFC 3596, 2.1).
@@ -35,6 +35,17 @@ pub enum AskFault {
     Failed,
     /// Memory was wanting.
     NoMemory,
+}
+
+impl From<NoMemory> for AskFault {
+    ghost use Rattle.std.specs.Prelude.{◌≡◌};
+    ghost use Rattle.pf_asks.specs.declared.resolver.AskFault.TheVariants.{NoMemory};
+
+    ghost from_gives = { λ _ fault. fault ≡ NoMemory };
+
+    fn from(_: NoMemory) -> AskFault {
+        AskFault::NoMemory
+    }
 }
 
 /// What a resolver means for a name and a kind.
