@@ -1,4 +1,4 @@
--- The shape of pieces so far, and of the others.
+-- The size of pieces so far, and of the others.
 use Rattle.std.proofs.Common.{◌≡◌, ℕ, ◌+◌, ◌-◌, ◌<◌, ◌≤◌, ◌==◌, suc, drop, get_or, length, true, false, nat_lt, List, [], ◌∷◌, refl, sym, ap, ◌∙◌, arith, if◌then◌else◌}
 use Rattle.std.proofs.lemmas.Bool.{ltb-true, lt-ltb}
 use Rattle.std.proofs.Math.Seq.{drop-cons}

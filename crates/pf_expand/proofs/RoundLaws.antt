@@ -1,4 +1,4 @@
--- The shapes of values with one level more.
+-- The sizes of values with one level more.
 use Rattle.std.proofs.Common.{◌≡◌, ℕ, ◌+◌, ◌≤◌, not, suc, Bool, true, false, nat_lt, List, [], ◌∷◌, length, get_or, map, Ok, Err, is_ok, Option, None, Some, refl, sym, ap, ◌∙◌, arith, cond, if◌then◌else◌}
 use Rattle.std.proofs.lemmas.Bool.{ltb-false}
 use Rattle.std.proofs.lemmas.List.{get_or-map}
@@ -24,7 +24,7 @@ use Rattle.pf_expand.specs.declared.run.Mode.TheVariants.{Counts}
 use Rattle.pf_expand.specs.declared.size.Size.TheVariants.{Long, Flawed}
 use Rattle.pf_expand.specs.declared.token.Token.{Token}
 
--- a value above the limit has the shape of one that is too long
+-- a value above the limit has the size of one that is too long
 limited_alike : (x : Answer) → size_of (within_limit x) ≡ size_of x
 limited_alike (Ok bytes) =
     (elim (nat_lt length_limit (length bytes)) as (λ t. nat_lt length_limit (length bytes) ≡ t → size_of (unless_long t bytes) ≡ size_of (Ok bytes)) [
@@ -36,7 +36,7 @@ limited_alike (Ok bytes) =
     unless_long t b = if t then Err TooLong else Ok b
 limited_alike (Err flaw) = refl
 
--- the shape of a text in its pieces
+-- the size of a text in its pieces
 pub text_size : (names : List (List ℕ × Kept)) (sizes : Sizes) (tokens : List Token) → AreSizes names sizes
     → run (size_named names sizes) Counts tokens ≡ size_of (within_limit (runs.run (level_value names sizes.levels) Counts tokens))
 text_size names sizes tokens are =
@@ -100,7 +100,7 @@ not_set names name h =
 pub not_set_value : (names : List (List ℕ × Kept)) (n : ℕ) (name : List ℕ) → meaning_in names name ≡ None → Long 0 ≡ size_of (level_value names (n + 1) name)
 not_set_value names n name is = sym (ap size_of (next_meaning names n name None is))
 
--- the shapes with one level more
+-- the sizes with one level more
 pub next_sizes : (names : List (List ℕ × Kept)) (sizes : Sizes) (n : ℕ) → sizes.levels ≡ n + 1 → sizes.absent ≡ Long 0
     → sizes.named ≡ map (λ name. size_of (level_value names (n + 1) name)) (keys_of names) → AreSizes names sizes
 next_sizes names sizes n levels absent named name =

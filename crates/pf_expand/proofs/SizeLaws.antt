@@ -1,4 +1,4 @@
--- The shape of pieces in turn is the shape of their value.
+-- The size of pieces in turn is the size of their value.
 use Rattle.std.proofs.Common.{◌≡◌, ℕ, ◌+◌, ◌<◌, true, false, nat_lt, List, [], ◌∷◌, Ok, Err, length, refl, sym, ap, ◌∙◌, arith, if◌then◌else◌}
 use Rattle.std.proofs.lemmas.Bool.{ltb-true, lt-ltb, ne_eqb}
 use Rattle.std.proofs.lemmas.List.{length-append}
@@ -16,7 +16,7 @@ use Rattle.pf_expand.specs.declared.size.Size.TheVariants.{Long, Flawed}
 use Rattle.pf_expand.specs.declared.token.Token.{Token}
 use Rattle.pf_expand.specs.declared.token.Token.TheVariants.{Literal, Name, Choose, Otherwise, End}
 
--- names have these shapes
+-- names have these sizes
 abbrev pub Agrees : (List ℕ → Answer) → (List ℕ → Size) → Type 0
 Agrees values named = (name : List ℕ) → named name ≡ size_of (values name)
 
@@ -53,7 +53,7 @@ joined_size (Ok a) (Err flaw) = flaw_behind flaw (length a)
 joined_size (Err flaw) (Ok b) = flaw_before flaw (length b)
 joined_size (Err flaw) (Err other) = refl
 
--- a value that is not above the limit has its length as its shape
+-- a value that is not above the limit has its length as its size
 pub limited_size : (bytes : List ℕ) → within_limit (Ok bytes) ≡ Ok bytes → size_of (Ok bytes) ≡ Long (length bytes)
 limited_size bytes h =
     (elim (nat_lt length_limit (length bytes)) as (λ t. (if t then Err TooLong else Ok bytes) ≡ Ok bytes → (if t then Flawed TooLong else Long (length bytes)) ≡ Long (length bytes)) [
@@ -80,7 +80,7 @@ added_size values named agrees limited Counts End = refl
 added_size values named agrees limited (ToOtherwise n) token = refl
 added_size values named agrees limited (ToEnd n) token = refl
 
--- the shape of pieces is that of their value
+-- the size of pieces is that of their value
 pub run_size : (values : List ℕ → Answer) (named : List ℕ → Size) → Agrees values named → Limited values → (mode : Mode) (tokens : List Token)
     → sizes.run named mode tokens ≡ size_of (run values mode tokens)
 run_size values named agrees limited mode [] = refl

@@ -58,3 +58,8 @@ value_kept names sources levels text are is =
 pub name_kept : (names : List (List ℕ × Kept)) (sources : List ℕ → Source) (levels : ℕ) (name : List ℕ) → AreNames names sources → levels ≡ depth_limit
     → level_value names (levels + 1) name ≡ name_value sources (depth_limit + 1) name
 name_kept names sources levels name are is = level_name names sources are (levels + 1) name ∙ ap (λ n. name_value sources (n + 1) name) is
+
+-- and the domain in it, with one level less
+pub domain_kept : (names : List (List ℕ × Kept)) (sources : List ℕ → Source) (levels : ℕ) (host : List ℕ) → AreNames names sources → levels ≡ depth_limit
+    → domain_of (level_value names levels host) ≡ domain_of (name_value sources depth_limit host)
+domain_kept names sources levels host are is = ap domain_of (level_name names sources are levels host ∙ ap (λ n. name_value sources n host) is)

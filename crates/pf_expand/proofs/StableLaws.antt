@@ -1,4 +1,4 @@
--- Where a level changes no shape, further levels change no value.
+-- Where a level changes no size, further levels change no value.
 use Rattle.std.proofs.Common.{◌≡◌, ℕ, ◌+◌, ◌-◌, ◌≤◌, zero, suc, List, Ok, Err, Option, None, Some, refl, sym, ap, ◌∙◌, arith}
 use Rattle.std.proofs.Math.Path.{fun_ext}
 use Rattle.pf_expand.proofs.LevelLaws.{level_limit, level_more}
@@ -9,7 +9,7 @@ use Rattle.pf_expand.specs.Clauses.Meanings.{Kept, level_value, meaning_of, mean
 use Rattle.pf_expand.specs.Clauses.Sizes.{size_of}
 use Rattle.pf_expand.specs.declared.lengths.Sizes.{Sizes}
 
--- a value that is kept where it is there, and has the same shape, is the same
+-- a value that is kept where it is there, and has the same size, is the same
 same_value : (x y : Answer) → within_limit y ≡ y → ((bytes : List ℕ) → x ≡ Ok bytes → y ≡ Ok bytes) → size_of x ≡ size_of y → y ≡ x
 same_value (Ok bytes) y limited more same = more bytes refl
 same_value (Err flaw) y limited more same = sym limited ∙ flawed_limit y flaw same
@@ -31,7 +31,7 @@ values_stay names n (suc k) same =
     one : (n k : ℕ) → n + suc k ≡ suc (n + k)
     one n k = omega arith
 
--- the shapes with one level more are the same
+-- the sizes with one level more are the same
 sizes_alike : (names : List (List ℕ × Kept)) (sizes next : Sizes) → next.named ≡ sizes.named → next.absent ≡ sizes.absent
     → (name : List ℕ) → size_named names next name ≡ size_named names sizes name
 sizes_alike names sizes next named absent name = at_place (place_in names name) where
@@ -39,7 +39,7 @@ sizes_alike names sizes next named absent name = at_place (place_in names name) 
   at_place None = absent
   at_place (Some place) = rw (named, absent) refl
 
--- so they are the shapes with any number of levels more
+-- so they are the sizes with any number of levels more
 pub sizes_stay : (names : List (List ℕ × Kept)) (sizes next last : Sizes) → AreSizes names sizes → AreSizes names next → next.levels ≡ sizes.levels + 1
     → next.named ≡ sizes.named → next.absent ≡ sizes.absent → sizes.levels ≤ last.levels → last.named ≡ next.named → last.absent ≡ next.absent
     → AreSizes names last

@@ -71,7 +71,7 @@ long_limit (Ok bytes) n e =
     unless_long t b = if t then Err TooLong else Ok b
 long_limit (Err g) n e = cc
 
--- the shape of pieces is that of their value
+-- the size of pieces is that of their value
 pub pieces_run : (names : List (List ℕ × Kept)) (sizes : Sizes) (tokens : List Token) → AreSizes names sizes
     → run (size_named names sizes) Counts tokens ≡ size_of (runs.run (level_value names sizes.levels) Counts tokens)
 pieces_run names sizes tokens are =

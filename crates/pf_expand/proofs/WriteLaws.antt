@@ -33,7 +33,7 @@ there_at names n m name bytes h e = subst (λ k. level_value names k name ≡ Ok
   up : (n m : ℕ) → n ≤ m → n + (m - n) ≡ m
   up n m h = omega (arith, h)
 
--- the shape of a value that is there with fewer levels
+-- the size of a value that is there with fewer levels
 there_size : (names : List (List ℕ × Kept)) (sizes : Sizes) (n : ℕ) (name bytes : List ℕ) → AreSizes names sizes → n ≤ sizes.levels → level_value names n name ≡ Ok bytes
     → size_named names sizes name ≡ Long (length bytes)
 there_size names sizes n name bytes are h e =
@@ -50,7 +50,7 @@ empty_there names sizes n name are h there none =
     same_length : (n : ℕ) → Long n ≡ Long 0 → n ≡ 0
     same_length n e = cc
 
--- what counts after a piece, by the shapes and by the values
+-- what counts after a piece, by the sizes and by the values
 behind_there : (names : List (List ℕ × Kept)) (sizes : Sizes) (n : ℕ) (mode : Mode) (token : Token) (bytes : List ℕ) → AreSizes names sizes → n ≤ sizes.levels
     → added (level_value names n) mode token ≡ Ok bytes
     → behind (choice_behind names sizes token) mode token ≡ behind (behind_choice (level_value names n (choice_name token))) mode token

@@ -2,6 +2,7 @@
 ghost use Rattle.std.specs.Prelude.{◌≡◌, ◌≤◌, ◌==◌, length};
 ghost use Rattle.std.specs.List.{list_all, position, prefix_len};
 ghost use Rattle.std.specs.Option.{option_copied, option_map};
+ghost use Rattle.pf_base.specs.Text.Ascii as ascii;
 ghost use Rattle.pf_expand.specs.Forms as spec;
 ghost use Rattle.pf_expand.specs.Clauses.FormsMeant.{part_meant};
 
@@ -63,7 +64,7 @@ fn in_brace(text: &[u8]) -> Option<(&[u8], &[u8])>
 
 // Where the first closing parenthesis is.
 fn closing_parenthesis(text: &[u8]) -> Option<usize>
-    ensures { result ≡ position (λ b. b == 41) text.now }
+    ensures { result ≡ position (λ b. b == ascii.right_parenthesis) text.now }
 {
     text.iter().position(|b| *b == b')')
 }

@@ -10,7 +10,7 @@ use crate::size::{Size, joined, long};
 use crate::token::Token;
 use pf_base::{Bytes, List};
 
-/// The shapes of the values of names with so many levels left: of those that were set, in their order, and of any other.
+/// The sizes of the values of names with so many levels left: of those that were set, in their order, and of any other.
 #[derive(Debug, Drop)]
 pub(crate) struct Sizes {
     pub(crate) levels: u64,
@@ -18,7 +18,7 @@ pub(crate) struct Sizes {
     pub(crate) absent: Size,
 }
 
-/// The shape of a name's value.
+/// The size of a name's value.
 pub(crate) fn size_named(names: &Names, sizes: &Sizes, name: &Bytes) -> Size
     ensures { result ≡ levels.size_named names.now sizes.now name.now }
 {
@@ -31,7 +31,7 @@ pub(crate) fn size_named(names: &Names, sizes: &Sizes, name: &Bytes) -> Size
     }
 }
 
-// The shape of nothing, or a flaw.
+// The size of nothing, or a flaw.
 fn flaw_alone(size: Size) -> Size
     ensures { result ≡ spec.flaw_alone size }
 {
@@ -78,7 +78,7 @@ pub(crate) fn choice_behind(names: &Names, sizes: &Sizes, token: &Token) -> Mode
     }
 }
 
-/// The shape of the value of pieces in turn.
+/// The size of the value of pieces in turn.
 pub(crate) fn pieces_size(names: &Names, sizes: &Sizes, tokens: &[Token]) -> Size
     ensures { result ≡ spec.run (levels.size_named names.now sizes.now) Counts tokens.now }
 {

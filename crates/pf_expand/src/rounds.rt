@@ -19,7 +19,7 @@ use std::alloc::Global;
 // The most levels of names.
 const DEPTH_LIMIT: u64 = 100;
 
-// The shape of the domain in the value of a name.
+// The size of the domain in the value of a name.
 fn domain_size(alloc: Global, names: &Names, sizes: &Sizes, host: &Bytes) -> Result<Size, NoMemory>
     requires { AreSizes names.now sizes.now }
     ensures { IfOk result (λ size. size ≡ size_of (expansion.domain_of (level_value names.now sizes.now.levels host.now))) }
@@ -34,7 +34,7 @@ fn domain_size(alloc: Global, names: &Names, sizes: &Sizes, host: &Bytes) -> Res
     }
 }
 
-// The shape of a text in its pieces, if it has its form.
+// The size of a text in its pieces, if it has its form.
 fn text_size(names: &Names, sizes: &Sizes, text: &Option<List<Token>>) -> Size
     requires { AreSizes names.now sizes.now }
     ensures { result ≡ size_of (meaning_value (level_value names.now sizes.now.levels) (Is text.now)) }
@@ -45,7 +45,7 @@ fn text_size(names: &Names, sizes: &Sizes, text: &Option<List<Token>>) -> Size
     }
 }
 
-// The shape of what a name means.
+// The size of what a name means.
 fn meaning_size(
     alloc: Global,
     names: &Names,
@@ -61,7 +61,7 @@ fn meaning_size(
     }
 }
 
-/// The shape of a name's value with one level more.
+/// The size of a name's value with one level more.
 pub(crate) fn next_size(
     alloc: Global,
     names: &Names,
@@ -77,7 +77,7 @@ pub(crate) fn next_size(
     }
 }
 
-// The shape of the value of the name at a place.
+// The size of the value of the name at a place.
 fn next_size_at(alloc: Global, names: &Names, sizes: &Sizes, place: usize) -> Result<Size, NoMemory>
     requires sizes { AreSizes names.now sizes.now }
     requires within { place < length names.now }
@@ -89,7 +89,7 @@ fn next_size_at(alloc: Global, names: &Names, sizes: &Sizes, place: usize) -> Re
     }
 }
 
-// The shapes of the values of the names in their order, with one level more.
+// The sizes of the values of the names in their order, with one level more.
 fn next_named(alloc: Global, names: &Names, sizes: &Sizes) -> Result<List<Size>, NoMemory>
     requires { AreSizes names.now sizes.now }
     ensures { IfOk result (λ named. named ≡ map (λ name. size_of (level_value names.now (sizes.now.levels + 1) name)) (keys_of names.now)) }
@@ -101,10 +101,10 @@ fn next_named(alloc: Global, names: &Names, sizes: &Sizes) -> Result<List<Size>,
     Ok(named)
 }
 
-// The shapes with one level more.
+// The sizes with one level more.
 fn next(alloc: Global, names: &Names, sizes: &Sizes) -> Result<Sizes, NoMemory>
     requires sizes { AreSizes names.now sizes.now }
-    requires levels { sizes.now.levels < 100 }
+    requires levels { sizes.now.levels < expansion.depth_limit }
     ensures sizes { IfOk result (λ next. AreSizes names.now next) }
     ensures levels { IfOk result (λ next. next.levels ≡ sizes.now.levels + 1) }
 {
@@ -116,14 +116,14 @@ fn next(alloc: Global, names: &Names, sizes: &Sizes) -> Result<Sizes, NoMemory>
     })
 }
 
-// The shapes are the same, whatever the levels.
+// The sizes are the same, whatever the levels.
 fn are_same(first: &Sizes, second: &Sizes) -> bool
     ensures { IsTrue result ↔ (first.now.named ≡ second.now.named) × (first.now.absent ≡ second.now.absent) }
 {
     first.absent == second.absent && first.named.as_slice() == second.named.as_slice()
 }
 
-/// The shapes of the values of names with 100 levels. Where a level changes none, no further one does.
+/// The sizes of the values of names with 100 levels. Where a level changes none, no further one does.
 pub(crate) fn sizes_of(alloc: Global, names: &Names) -> Result<Sizes, NoMemory>
     ensures sizes { IfOk result (λ sizes. AreSizes names.now sizes) }
     ensures levels { IfOk result (λ sizes. sizes.levels ≡ expansion.depth_limit) }

@@ -16,7 +16,7 @@ pub(crate) enum Mode {
     ToEnd(u64),
 }
 
-/// Which pieces count after the name of a choice, whose value has this shape.
+/// Which pieces count after the name of a choice, whose value has this size.
 pub(crate) fn behind_choice(named: Size) -> Mode
     ensures { result ≡ sizes.behind_choice named }
 {

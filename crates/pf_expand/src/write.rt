@@ -1,6 +1,7 @@
 //! Values are written.
 ghost use Rattle.std.specs.Prelude.{◌≡◌, ◌==◌, ◌≤◌, ◌+◌, ◌++◌, true, is_ok, OnOk};
 ghost use Rattle.std.specs.List.{position};
+ghost use Rattle.pf_base.specs.Text.Ascii as ascii;
 ghost use Rattle.pf_expand.specs.Clauses.Levels.{AreSizes};
 ghost use Rattle.pf_expand.specs.Clauses.Meanings.{level_value};
 ghost use Rattle.pf_expand.specs.Expansion.{content};
@@ -17,7 +18,7 @@ use pf_base::{Bytes, Meaning, NoMemory};
 use std::alloc::Global;
 
 fn dot_place(host: &[u8]) -> Option<usize>
-    ensures { result ≡ position (λ b. b == 46) host.now }
+    ensures { result ≡ position (λ b. b == ascii.dot) host.now }
 {
     host.iter().position(|b| *b == b'.')
 }

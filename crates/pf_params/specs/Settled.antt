@@ -6,7 +6,7 @@ use Rattle.pf_base.specs.declared.refused.Cause.{Cause}
 use Rattle.pf_base.specs.declared.refused.Cause.TheVariants.{C4, C5, C16}
 use Rattle.pf_base.specs.declared.refused.Refused.{Refused}
 use Rattle.pf_expand.specs.Expansion.{Answer}
-use Rattle.pf_expand.specs.Names.{depth_limit, expanded, name_value}
+use Rattle.pf_expand.specs.Names.{depth_limit, expanded, name_value, source_value}
 use Rattle.pf_expand.specs.declared.flaw.Flaw.{Flaw}
 use Rattle.pf_expand.specs.declared.flaw.Flaw.TheVariants.{BadForm, TooDeep, TooLong}
 use Rattle.pf_maincf.specs.Settings.{Conf}
@@ -43,6 +43,10 @@ or_refused file value = result_map_both (λ bytes. bytes) (refused file) value
 -- the value of a text
 abbrev pub value_in : Conf → List ℕ → Result (List ℕ) Refused
 value_in settled text = or_refused settled.file (expanded (settled_source settled) text)
+
+-- the value of what a name stands for
+abbrev pub meaning_value : Conf → Source → Answer
+meaning_value conf meaning = source_value (name_value (settled_source conf) depth_limit) meaning
 
 -- the value of a name as it is alone, one level above the names in a text
 abbrev pub value_alone : Conf → List ℕ → Answer

@@ -1,6 +1,7 @@
 //! The settings of a main.cf and those that count after them, with what is known of the values of their names.
 ghost use Rattle.std.specs.Prelude.{◌≡◌, ◌++◌, map, IfOk, OnOk};
 ghost use Rattle.std.specs.Option.{option_copied};
+ghost use Rattle.pf_base.specs.Clauses.Meant.{meant};
 ghost use Rattle.pf_base.specs.Clauses.Unless.{Unless};
 ghost use Rattle.pf_expand.specs.Names.{expanded};
 ghost use Rattle.pf_base.specs.Clauses.Faults.{as_fault};
@@ -9,7 +10,7 @@ ghost use Rattle.pf_params.specs.Settled as spec;
 
 use crate::refusals::text_refused;
 use crate::table::{set_default_values, set_names};
-use pf_base::{Bytes, ConfFault, List, NoMemory};
+use pf_base::{Bytes, ConfFault, List, Meaning, NoMemory};
 use pf_expand::{Flaw, Names, Values};
 use pf_maincf::{MainCf, Setting};
 use std::alloc::Global;
@@ -124,6 +125,17 @@ impl Known {
         ensures { IfOk result (λ value. value ≡ expanded (spec.settled_source self.now) text.now) }
     {
         self.values.text(alloc, text)
+    }
+
+    /// The value of what a name stands for, or would stand for, or why there is none.
+    pub fn meaning_value(
+        &self,
+        alloc: Global,
+        meaning: Meaning<&[u8], &[u8]>,
+    ) -> Result<Result<Bytes, Flaw>, NoMemory>
+        ensures { IfOk result (λ value. value ≡ spec.meaning_value self.now (meant meaning.entry)) }
+    {
+        self.values.meaning(alloc, meaning)
     }
 
     /// The value of a name as it is alone, or why there is none.

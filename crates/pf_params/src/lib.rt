@@ -11,4 +11,5 @@ mod table;
 
 pub use known::Known;
 pub use readings::Reading;
+pub use refusals::cause_of;
 pub use settings::Settings;

@@ -10,7 +10,7 @@ use pf_expand::Flaw;
 use std::alloc::Global;
 
 /// The cause of a refusal of a value that is not there.
-pub(crate) fn cause_of(flaw: Flaw) -> Cause
+pub fn cause_of(flaw: Flaw) -> Cause
     ensures { result ≡ settled.cause_of flaw }
 {
     match flaw {

@@ -1,15 +1,14 @@
 -- What names stand for by default.
-use Rattle.std.proofs.Common.{◌≡◌, ℕ, ◌≤◌, zero, suc, Bool, true, false, List, [], ◌∷◌, Option, None, Some, cond, codes, get_or, length, ltb, refl, sym, ap, ◌∙◌, arith}
-use Rattle.std.proofs.lemmas.Bool.{and_parts, ltb-false}
+use Rattle.std.proofs.Common.{◌≡◌, ℕ, ◌≤◌, zero, suc, Bool, true, false, List, [], ◌∷◌, Option, None, Some, cond, get_or, length, ltb, refl, sym, ap, ◌∙◌, arith}
+use Rattle.std.proofs.lemmas.Bool.{ltb-false}
 use Rattle.std.proofs.lemmas.List.Folds.{find_at}
 use Rattle.std.proofs.lemmas.List.Quantifiers.{position-Some}
 use Rattle.std.proofs.lemmas.Option.{slice_get-get_or}
-use Rattle.std.proofs.lemmas.Slice.Eq.{bytes_eq-Decides}
-use Rattle.std.specs.List.{find, list_all, position, position_or_len, slice_get}
+use Rattle.std.specs.List.{find, position, position_or_len, slice_get}
 use Rattle.std.specs.Option.{option_map_or}
 use Rattle.std.specs.Str.{bytes_eq}
 use Rattle.pf_base.specs.Meanings.{Source}
-use Rattle.pf_base.specs.declared.meaning.Meaning.TheVariants.{Is, DomainOf}
+use Rattle.pf_base.specs.declared.meaning.Meaning.TheVariants.{Is}
 use Rattle.pf_catalogue.specs.Catalogue.{Row, catalogue, place_of, row, row_at}
 use Rattle.pf_catalogue.specs.declared.kind.Kind.TheVariants.{Text}
 use Rattle.pf_params.specs.Sources.{default_value_of}
@@ -41,23 +40,3 @@ pub no_default_value : (name : List ℕ) → None ≡ place_of name → default_
 no_default_value name none =
     ap (λ (o : Option Row). option_map_or (λ (r : Row). r.default_value) o (Is []))
     (none_there (λ (r : Row). bytes_eq r.name name) catalogue none)
-
--- a default that is no text is the domain in the value of myhostname
-abbrev is_host : Source → Bool
-is_host (Is bytes) = true
-is_host (DomainOf name) = bytes_eq name (codes "myhostname")
-
-all_hosts : list_all (λ (r : Row). is_host r.default_value) catalogue ≡ true
-unfolding catalogue
-all_hosts = refl
-
-host_at : (rows : List Row) (place : ℕ) (d : Row) → list_all (λ (r : Row). is_host r.default_value) rows ≡ true → is_host d.default_value ≡ true
-    → is_host (get_or rows place d).default_value ≡ true
-host_at [] place d all none = none
-host_at (r ∷ rows) zero d all none = (and_parts (is_host r.default_value) (list_all (λ (r : Row). is_host r.default_value) rows) all).0
-host_at (r ∷ rows) (suc place) d all none =
-    host_at rows place d (and_parts (is_host r.default_value) (list_all (λ (r : Row). is_host r.default_value) rows) all).1 none
-
-pub host_is : (place : ℕ) (name : List ℕ) → DomainOf name ≡ (row_at place).default_value → name ≡ codes "myhostname"
-host_is place name is =
-    (bytes_eq-Decides name (codes "myhostname")).0 (ap is_host is ∙ host_at catalogue place (row [] Text (Is [])) all_hosts refl)

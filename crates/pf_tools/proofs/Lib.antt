@@ -5,4 +5,3 @@ pub mod ReportLaws
 pub mod Rows
 pub mod RunLaws
 pub mod StatusLaws
-pub mod ValueLaws

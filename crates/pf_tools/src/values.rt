@@ -1,99 +1,36 @@
 //! The values that are shown of names.
-ghost use Rattle.std.specs.Prelude.{◌≡◌, ◌==◌, ◌≢◌, ◌∷◌, codes, IfOk};
-ghost use Rattle.std.specs.List.{position};
+ghost use Rattle.std.specs.Prelude.{◌≡◌, IfOk};
 ghost use Rattle.std.specs.Option.{option_copied, option_map_or};
-ghost use Rattle.pf_base.specs.Text.Ascii as ascii;
+ghost use Rattle.pf_base.specs.Clauses.Meant.{meant};
 ghost use Rattle.pf_base.specs.Clauses.Unless.{Unless};
-ghost use Rattle.pf_base.specs.declared.meaning.Meaning.TheVariants.{Is, DomainOf};
+ghost use Rattle.pf_base.specs.declared.meaning.Meaning.TheVariants.{Is};
 ghost use Rattle.pf_base.specs.Clauses.Faults.{as_fault};
-ghost use Rattle.pf_expand.specs.Names as names;
-ghost use Rattle.pf_params.specs.Settled.{or_refused};
-ghost use Rattle.pf_params.specs.Sources.{default_value_of};
+ghost use Rattle.pf_params.specs.Parameters.{refusal_of};
+ghost use Rattle.pf_params.specs.Settled as settled;
+ghost use Rattle.pf_params.specs.Sources as sources;
 ghost use Rattle.pf_tools.specs.Values as spec;
 
 use pf_base::{Bytes, ConfFault, Meaning, NoMemory, Refused};
 use pf_catalogue::param;
+use pf_expand::Flaw;
 use pf_maincf::Setting;
-use pf_params::Known;
+use pf_params::{Known, cause_of};
 use pf_words::{ConfMode, ConfWords, Shape};
 use std::alloc::Global;
 
-// The place of the first dot.
-fn dot_place(host: &[u8]) -> Option<usize>
-    ensures { result ≡ position (λ b. b == ascii.dot) host.now }
-{
-    host.iter().position(|b| *b == b'.')
-}
-
-// The domain in a host name.
-fn domain_in(alloc: Global, host: &[u8]) -> Result<Bytes, NoMemory>
-    ensures { IfOk result (λ domain. domain ≡ names.domain_in host.now) }
-{
-    match dot_place(host) {
-        None => Bytes::from_slice(alloc, b"localdomain"),
-        Some(place) => Bytes::from_slice(alloc, &host[place + 1..]),
-    }
-}
-
-// A text in which a name stands for its value.
-fn text_with(alloc: Global, name: &[u8]) -> Result<Bytes, NoMemory>
-    ensures { IfOk result (λ text. text ≡ 36 ∷ name.now) }
-{
-    let mut text = Bytes::new(alloc);
-    text.push(b'$')?;
-    text.extend(name)?;
-    Ok(text)
-}
-
-// The domain in the value of a name.
-fn domain_shown(alloc: Global, known: &Known, host: &[u8]) -> Result<Bytes, ConfFault>
-    requires { host.now ≡ codes "myhostname" }
-    ensures { Unless result ConfFault.NoMemory (λ r. r ≡ as_fault (or_refused known.now.file (spec.value_in known.now (DomainOf host.now)))) }
-{
-    let Ok(text) = text_with(alloc, host) else {
-        return Err(ConfFault::NoMemory);
-    };
-    let value = known.expand(alloc, text.as_slice())?;
-    match domain_in(alloc, value.as_slice()) {
-        Ok(domain) => Ok(domain),
-        Err(NoMemory) => Err(ConfFault::NoMemory),
-    }
-}
-
-// A text, or its value.
-fn text_shown(alloc: Global, known: &Known, expanded: bool, text: &[u8]) -> Result<Bytes, ConfFault>
-    ensures { Unless result ConfFault.NoMemory (λ r. r ≡ as_fault (or_refused known.now.file (spec.shown expanded known.now (Is text.now)))) }
-{
-    if expanded {
-        return known.expand(alloc, text);
-    }
-    match Bytes::from_slice(alloc, text) {
-        Ok(text) => Ok(text),
-        Err(NoMemory) => Err(ConfFault::NoMemory),
-    }
-}
-
-// What is shown of a name by default.
-fn default_value_shown(
-    alloc: Global,
-    known: &Known,
-    expanded: bool,
-    name: &[u8],
-) -> Result<Bytes, ConfFault>
-    ensures { Unless result ConfFault.NoMemory (λ r. r ≡ as_fault (or_refused known.now.file (spec.shown expanded known.now (default_value_of name.now)))) }
+// What a name stands for by default.
+fn default_value_of(name: &[u8]) -> Meaning<&'static [u8], &'static [u8]>
+    ensures { meant result ≡ sources.default_value_of name.now }
 {
     match param(name) {
-        None => text_shown(alloc, known, expanded, b""),
-        Some(p) => match p.row().2 {
-            Meaning::Is(text) => text_shown(alloc, known, expanded, text),
-            Meaning::DomainOf(host) => domain_shown(alloc, known, host),
-        },
+        None => Meaning::Is(b""),
+        Some(p) => p.row().2,
     }
 }
 
 // The setting of a name that counts.
 fn counting<'a>(mode: ConfMode, known: &'a Known, name: &[u8]) -> Option<&'a Setting>
-    ensures { spec.source_in mode known.now name.now ≡ option_map_or (λ s. Is s.value) (option_copied result) (default_value_of name.now) }
+    ensures { spec.source_in mode known.now name.now ≡ option_map_or (λ s. Is s.value) (option_copied result) (sources.default_value_of name.now) }
 {
     match mode {
         ConfMode::Defaults => None,
@@ -101,18 +38,44 @@ fn counting<'a>(mode: ConfMode, known: &'a Known, name: &[u8]) -> Option<&'a Set
     }
 }
 
-// What is shown of a name.
-fn name_shown(
-    alloc: Global,
-    words: &ConfWords,
-    known: &Known,
-    name: &[u8],
-) -> Result<Bytes, ConfFault>
-    ensures { Unless result ConfFault.NoMemory (λ r. r ≡ as_fault (or_refused known.now.file (spec.shown words.now.expanded known.now (spec.source_in words.now.mode known.now name.now)))) }
+// What a name stands for.
+fn meaning_of<'a>(mode: ConfMode, known: &'a Known, name: &[u8]) -> Meaning<&'a [u8], &'a [u8]>
+    ensures { meant result ≡ spec.source_in mode known.now name.now }
 {
-    match counting(words.mode, known, name) {
-        Some(setting) => text_shown(alloc, known, words.expanded, setting.value.as_slice()),
-        None => default_value_shown(alloc, known, words.expanded, name),
+    match counting(mode, known, name) {
+        None => default_value_of(name),
+        Some(setting) => Meaning::Is(setting.value.as_slice()),
+    }
+}
+
+// What is shown of a text.
+fn text_shown(
+    alloc: Global,
+    known: &Known,
+    expanded: bool,
+    text: &[u8],
+) -> Result<Result<Bytes, Flaw>, NoMemory>
+    ensures { IfOk result (λ value. value ≡ spec.shown expanded known.now (Is text.now)) }
+{
+    if expanded {
+        return known.meaning_value(alloc, Meaning::Is(text));
+    }
+    let text = Bytes::from_slice(alloc, text)?;
+    Ok(Ok(text))
+}
+
+// What is shown of what a name stands for.
+fn shown(
+    alloc: Global,
+    known: &Known,
+    expanded: bool,
+    meaning: Meaning<&[u8], &[u8]>,
+) -> Result<Result<Bytes, Flaw>, NoMemory>
+    ensures { IfOk result (λ value. value ≡ spec.shown expanded known.now (meant meaning.entry)) }
+{
+    match meaning {
+        Meaning::Is(text) => text_shown(alloc, known, expanded, text),
+        Meaning::DomainOf(host) => known.meaning_value(alloc, Meaning::DomainOf(host)),
     }
 }
 
@@ -126,24 +89,34 @@ fn line_in(mode: ConfMode, known: &Known, name: &[u8]) -> u64
     }
 }
 
-// A refusal at the line of the setting that is shown of a name.
-fn at_setting(
+// The refusal of the setting that is shown of a name.
+fn refusal_shown(
     alloc: Global,
     mode: ConfMode,
     known: &Known,
     name: &[u8],
-    refusal: Refused,
-) -> ConfFault
-    ensures { result ≢ ConfFault.NoMemory → result ≡ ConfFault.Refused (record refusal { line = spec.line_in mode known.now name.now; name = name.now }) }
+    flaw: Flaw,
+) -> Result<Refused, NoMemory>
+    ensures { IfOk result (λ refusal. refusal ≡ record (refusal_of known.now name.now (settled.cause_of flaw)) { line = spec.line_in mode known.now name.now }) }
 {
-    match Bytes::from_slice(alloc, name) {
-        Err(NoMemory) => ConfFault::NoMemory,
-        Ok(copy) => ConfFault::Refused(Refused {
-            file: refusal.file,
-            line: line_in(mode, known, name),
-            cause: refusal.cause,
-            name: copy,
-        }),
+    let mut refusal = known.refusal(alloc, name, cause_of(flaw))?;
+    refusal.line = line_in(mode, known, name);
+    Ok(refusal)
+}
+
+// The value of a name, or the refusal of the setting that is shown.
+fn named_value(
+    alloc: Global,
+    words: &ConfWords,
+    known: &Known,
+    name: &[u8],
+) -> Result<Result<Bytes, Refused>, NoMemory>
+    ensures { IfOk result (λ value. value ≡ spec.named_value words.now known.now name.now) }
+{
+    let meaning = meaning_of(words.mode, known, name);
+    match shown(alloc, known, words.expanded, meaning)? {
+        Ok(value) => Ok(Ok(value)),
+        Err(flaw) => Ok(Err(refusal_shown(alloc, words.mode, known, name, flaw)?)),
     }
 }
 
@@ -159,11 +132,9 @@ pub(crate) fn value_shown(
     if words.shape == Shape::Names {
         return Ok(Bytes::new(alloc));
     }
-    match name_shown(alloc, words, known, name) {
-        Ok(value) => Ok(value),
-        Err(ConfFault::Refused(refusal)) => Err(at_setting(
-            alloc, words.mode, known, name, refusal,
-        )),
-        Err(ConfFault::NoMemory) => Err(ConfFault::NoMemory),
+    match named_value(alloc, words, known, name) {
+        Ok(Ok(value)) => Ok(value),
+        Ok(Err(refusal)) => Err(ConfFault::Refused(refusal)),
+        Err(NoMemory) => Err(ConfFault::NoMemory),
     }
 }

@@ -14,7 +14,7 @@ use Rattle.pf_expand.specs.declared.token.Token.TheVariants.{Literal, Name, Choo
 abbrev pub long : ℕ → Size
 long n = if nat_lt length_limit n then Flawed TooLong else Long n
 
--- the shape of a value
+-- the size of a value
 abbrev pub size_of : Answer → Size
 size_of (Ok bytes) = long (length bytes)
 size_of (Err flaw) = Flawed flaw
@@ -50,7 +50,7 @@ abbrev pub behind_choice : Size → Mode
 behind_choice (Long n) = if n == 0 then ToOtherwise 0 else Counts
 behind_choice (Flawed flaw) = ToEnd 0
 
--- the shape of pieces in turn
+-- the size of pieces in turn
 abbrev pub run : (List ℕ → Size) → Mode → List Token → Size
 run sizes mode [] = Long 0
 run sizes mode (token ∷ tokens) =
