@@ -1,15 +1,20 @@
 -- Worked examples of the definitions, each by computation.
-use Rattle.std.proofs.Common.{◌≡◌, ℕ, ◌&&◌, Bool, true, false, List, [], ◌∷◌, None, Some, is_lt, is_some, length, map, nat_cmp, refl, codes, Bor}
+use Rattle.std.proofs.Common.{◌≡◌, ℕ, ◌&&◌, Bool, true, false, List, [], ◌∷◌, None, Some, is_lt, is_some, length, map, nat_cmp, refl, codes, replicate, ◌++◌, Bor}
 use Rattle.std.specs.Cmp.Lexicographic.{slice_cmp}
 use Rattle.std.specs.List.{list_all}
+use Rattle.std.specs.Net.Addr.{ipv4_bits, ipv6_bits}
+use Rattle.std.specs.Net.Reader.{read_ipv4, read_ipv6, read_number, read_octet, read_segment, read_segments}
 use Rattle.pf_base.specs.TableTexts.{TableTexts}
 use Rattle.pf_base.specs.Text.Words.{words_of}
 use Rattle.pf_base.specs.Meanings.{Source}
 use Rattle.pf_base.specs.declared.meaning.Meaning.TheVariants.{Is, DomainOf}
 use Rattle.pf_base.specs.declared.table_texts.TableText.{TableText}
+use Rattle.pf_cidr.specs.Addresses.{address_of}
+use Rattle.pf_cidr.specs.Nets.{host_of, net_of, written_net}
 use Rattle.pf_catalogue.specs.Arguments.{argument_of}
 use Rattle.pf_catalogue.specs.Catalogue.{Row, catalogue, place_of, row, row_at}
 use Rattle.pf_catalogue.specs.Clients.{are_rewrite_clients}
+use Rattle.pf_catalogue.specs.Hosts.{are_hosts, are_interfaces, are_networks}
 use Rattle.pf_catalogue.specs.Lists.{table_in}
 use Rattle.pf_catalogue.specs.Numbers.{number_within}
 use Rattle.pf_catalogue.specs.Clauses.RowsMeant.{row_meant}
@@ -61,7 +66,7 @@ is_value k (Is text) = is_some (value_of k text)
 is_value k (DomainOf name) = true
 
 defaults_are_values : list_all (λ r. is_value r.kind r.default_value) catalogue ≡ true
-unfolding catalogue words_of
+unfolding catalogue words_of net_of written_net host_of address_of ipv4_bits ipv6_bits read_ipv4 read_ipv6 read_number read_octet read_segment read_segments
 defaults_are_values = refl
 
 -- numbers: at their bounds and past them, with leading zeros, and with bytes that are no digits
@@ -101,12 +106,53 @@ unfolding words_of
 table_lists = refl
 
 abbrev kinds_of_any_items : List Kind
-kinds_of_any_items = kind.Domains ∷ kind.Networks ∷ kind.Hosts ∷ kind.Restrictions ∷ kind.Interfaces ∷ kind.Names ∷ []
+kinds_of_any_items = kind.Domains ∷ kind.Restrictions ∷ kind.Names ∷ []
 
 any_items : map (λ k. map (value_of k) (codes "/f, a" ∷ codes "a {b" ∷ [])) kinds_of_any_items
     ≡ map (λ k. Some (Items (codes "/f" ∷ codes "a" ∷ [])) ∷ None ∷ []) kinds_of_any_items
 unfolding words_of
 any_items = refl
+
+-- networks: tables, files, addresses and nets, each after an exclamation mark too; an IPv6 address without brackets looks like a table
+abbrev network_items : List (List ℕ)
+network_items =
+    codes "10.0.0.0/8" ∷ codes "!10.1.2.3" ∷ codes "[::1]/128" ∷ codes "![::1]" ∷ codes "a:b" ∷ codes "!a:b" ∷ codes "/f" ∷ codes "!/f" ∷ codes "::1" ∷ []
+
+abbrev no_network_items : List (List ℕ)
+no_network_items =
+    codes "10.0.0.1/8" ∷ codes "10.0.0.0/33" ∷ codes "[10.0.0.0]/8" ∷ codes "[::1/128]" ∷ codes "[::1]/64" ∷ codes "10.0.0" ∷ codes "!!10.0.0.0/8" ∷ codes "!" ∷ []
+
+-- names of hosts, which are no networks
+abbrev host_items : List (List ℕ)
+host_items = codes "a.test" ∷ codes ".test" ∷ codes "!a.test" ∷ codes "!.test" ∷ codes "1.2" ∷ []
+
+abbrev no_host_items : List (List ℕ)
+no_host_items = codes "." ∷ codes "..test" ∷ codes "a..test" ∷ codes "!" ∷ codes "!!a" ∷ codes "[::1/128]" ∷ codes "[a]" ∷ codes "10.0.0.1/8" ∷ []
+
+networks : map (λ item. are_networks (item ∷ [])) (network_items ++ no_network_items ++ codes "a.test" ∷ codes ".test" ∷ [])
+    ≡ replicate 9 true ++ replicate 10 false
+unfolding net_of written_net host_of address_of ipv4_bits ipv6_bits read_ipv4 read_ipv6 read_number read_octet read_segment read_segments
+networks = refl
+
+hosts : map (λ item. are_hosts (item ∷ [])) (network_items ++ host_items ++ no_host_items) ≡ replicate 14 true ++ replicate 8 false
+unfolding net_of written_net host_of address_of ipv4_bits ipv6_bits read_ipv4 read_ipv6 read_number read_octet read_segment read_segments
+hosts = refl
+
+-- interfaces: all, or the loopback, alone and as written, or addresses without brackets
+interfaces : map are_interfaces
+    ((codes "all" ∷ []) ∷ (codes "loopback-only" ∷ []) ∷ (codes "10.1.2.3" ∷ codes "::1" ∷ []) ∷ (codes "::1" ∷ []) ∷ [] ∷ (codes "All" ∷ [])
+    ∷ (codes "all" ∷ codes "all" ∷ []) ∷ (codes "10.1.2.3" ∷ codes "all" ∷ []) ∷ (codes "[::1]" ∷ []) ∷ (codes "10.0.0.0/8" ∷ []) ∷ (codes "mx.test" ∷ []) ∷ [])
+    ≡ replicate 5 true ++ replicate 6 false
+unfolding address_of ipv4_bits ipv6_bits read_ipv4 read_ipv6 read_number read_octet read_segment read_segments
+interfaces = refl
+
+-- one item of these kinds is asked for by its kind
+items_by_their_kind : map (λ k. map (value_of k) (codes "10.0.0.0/8" ∷ codes "a.test" ∷ codes "all" ∷ [])) (kind.Networks ∷ kind.Hosts ∷ kind.Interfaces ∷ [])
+    ≡ (Some (Items (codes "10.0.0.0/8" ∷ [])) ∷ None ∷ None ∷ [])
+    ∷ (Some (Items (codes "10.0.0.0/8" ∷ [])) ∷ Some (Items (codes "a.test" ∷ [])) ∷ Some (Items (codes "all" ∷ [])) ∷ [])
+    ∷ (None ∷ None ∷ Some (Items (codes "all" ∷ [])) ∷ []) ∷ []
+unfolding words_of net_of written_net host_of address_of ipv4_bits ipv6_bits read_ipv4 read_ipv6 read_number read_octet read_segment read_segments
+items_by_their_kind = refl
 
 address_kinds : map (value_of kind.AddressKinds)
     (codes "header_sender, envelope_recipient" ∷ codes "envelope_sender header_recipient" ∷ codes "header_sender, body" ∷ codes "Header_Sender" ∷ [])

@@ -2,6 +2,7 @@ pub mod Arguments
 pub mod Catalogue
 pub mod Clauses
 pub mod Clients
+pub mod Hosts
 pub mod Lists
 pub mod Numbers
 pub mod Tables

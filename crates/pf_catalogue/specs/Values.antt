@@ -7,6 +7,7 @@ use Rattle.pf_base.specs.Text.Names.{same_in_any_case}
 use Rattle.pf_base.specs.Text.Words.{words_of}
 use Rattle.pf_base.specs.declared.text.words.WordsFault.{WordsFault}
 use Rattle.pf_catalogue.specs.Clients.{are_rewrite_clients}
+use Rattle.pf_catalogue.specs.Hosts.{are_hosts, are_interfaces, are_networks}
 use Rattle.pf_catalogue.specs.Lists.{has_no_file, is_address_kind, is_extension_way, is_file}
 use Rattle.pf_catalogue.specs.Numbers.{number_within}
 use Rattle.pf_catalogue.specs.declared.kind.Kind.{Kind}
@@ -59,12 +60,12 @@ are_items kind.Code items = false
 are_items kind.Yes items = false
 are_items kind.Maps items = has_no_file items
 are_items kind.Domains items = true
-are_items kind.Networks items = true
-are_items kind.Hosts items = true
+are_items kind.Networks items = are_networks items
+are_items kind.Hosts items = are_hosts items
 are_items kind.Restrictions items = true
 are_items kind.AddressKinds items = list_all is_address_kind items
 are_items kind.Extensions items = list_all is_extension_way items
-are_items kind.Interfaces items = true
+are_items kind.Interfaces items = are_interfaces items
 are_items kind.RewriteClients items = are_rewrite_clients false items
 are_items kind.Names items = true
 are_items kind.FixedYes items = false

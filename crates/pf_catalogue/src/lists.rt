@@ -75,8 +75,8 @@ fn begins_with_bracket(text: &[u8]) -> bool
     }
 }
 
-// An item without the exclamation mark that turns it round.
-fn without_not(item: &[u8]) -> &[u8]
+/// An item without the exclamation mark that turns it round.
+pub(crate) fn without_not(item: &[u8]) -> &[u8]
     ensures { result.now ≡ spec.without_not item.now }
 {
     match item {
@@ -85,14 +85,16 @@ fn without_not(item: &[u8]) -> &[u8]
     }
 }
 
-fn is_table(text: &[u8]) -> bool
+/// Whether a text is a table or a file's name: it begins with a slash, or holds a colon and does not begin with a bracket.
+pub(crate) fn is_table(text: &[u8]) -> bool
     ensures { result ≡ spec.is_table text.now }
 {
     is_file(text) || has_colon(text) && !begins_with_bracket(text)
 }
 
-/// The table or file that an item of a list names, if it names any.
-pub(crate) fn table_in(item: &[u8]) -> Option<&[u8]>
+/// The table or file that an item of a list of domains, networks or hosts names, with or without an exclamation mark before it
+/// (DATABASE_README): what begins with a slash, or holds a colon and does not begin with a bracket. None where it names none.
+pub fn table_in(item: &[u8]) -> Option<&[u8]>
     ensures { option_copied result ≡ spec.table_in item.now }
 {
     let text = without_not(item);

@@ -4,6 +4,7 @@ ghost use Rattle.std.specs.Option.{option_copied};
 ghost use Rattle.pf_catalogue.specs.Values as spec;
 
 use crate::clients::are_rewrite_clients;
+use crate::hosts::{are_hosts, are_interfaces, are_networks};
 use crate::kind::Kind;
 use crate::lists::{are_address_kinds, are_extension_ways, has_no_file, is_file};
 use crate::numbers::number_within;
@@ -127,15 +128,13 @@ fn are_items(kind: Kind, items: &[Bytes]) -> bool
 {
     match kind {
         Kind::Maps => has_no_file(items),
+        Kind::Networks => are_networks(items),
+        Kind::Hosts => are_hosts(items),
+        Kind::Interfaces => are_interfaces(items),
         Kind::AddressKinds => are_address_kinds(items),
         Kind::Extensions => are_extension_ways(items),
         Kind::RewriteClients => are_rewrite_clients(items),
-        Kind::Domains
-        | Kind::Networks
-        | Kind::Hosts
-        | Kind::Restrictions
-        | Kind::Interfaces
-        | Kind::Names => true,
+        Kind::Domains | Kind::Restrictions | Kind::Names => true,
         Kind::Text
         | Kind::Origin
         | Kind::Number { .. }
