@@ -1,6 +1,7 @@
 //! Tables by the texts that name them (DATABASE_README): what a text names, and tables that were opened.
 #![tactic(auto)]
 
+mod cdb_table;
 mod net_table;
 mod node;
 mod opening;
