@@ -18,7 +18,7 @@ use Rattle.pf_base.specs.declared.refused.Refused.{Refused}
 use Rattle.pf_asks.specs.declared.lookup.Found.{Found}
 use Rattle.pf_asks.specs.declared.lookup.Found.TheVariants.{Value, Absent}
 use Rattle.pf_table.proofs.TextLemmas.{there}
-use Rattle.pf_table.specs.Clauses.Faults.{as_fault}
+use Rattle.pf_base.specs.Clauses.Faults.{as_fault}
 use Rattle.pf_table.specs.Inline as inline
 use Rattle.pf_table.specs.Inline.{inline_of, item_pairs}
 use Rattle.pf_table.specs.Pairs.{counted, counting, pairs_of, with_pair}

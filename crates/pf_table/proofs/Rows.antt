@@ -11,12 +11,13 @@ use Rattle.pf_asks.specs.declared.lookup.Found.TheVariants.{Value, Absent}
 use Rattle.pf_asks.specs.declared.lookup.TableFault.TheVariants.{Fails, Failed}
 use Rattle.pf_table.specs.Clauses.Memory.{values_of}
 use Rattle.pf_table.specs.First.{first_of}
-use Rattle.pf_table.specs.Inline.{inline_of, refused}
+use Rattle.pf_base.specs.Refusal.{refused}
+use Rattle.pf_table.specs.Inline.{inline_of}
+use Rattle.pf_table.specs.Inline as inline
 use Rattle.pf_table.specs.Line.{pair_of}
 use Rattle.pf_table.specs.Pairs.{pairs_of}
 use Rattle.pf_table.specs.Tables.{Keyed, fail_meaning, keyed_meaning, static_meaning}
 use Rattle.pf_table.specs.Text.{text_read}
-use Rattle.pf_table.specs.Text as text
 use Rattle.pf_table.specs.declared.line.Reason.TheVariants.{NoValue, QuoteNotClosed}
 use Rattle.pf_table.specs.declared.pairs.Repeats.TheVariants.{First, Last}
 
@@ -60,11 +61,11 @@ text_table : text_read (codes "t") true First (codes "B x\nb y\n\"c d\" z\n") �
 unfolding text_read
 text_table = refl
 
-text_refused : text_read (codes "t") true First (codes "a b\n\nc\n") ≡ Err (text.refused (codes "t") 3 C11 (codes "no value"))
+text_refused : text_read (codes "t") true First (codes "a b\n\nc\n") ≡ Err (refused (codes "t") 3 C11 (codes "no value"))
 unfolding text_read
 text_refused = refl
 
-text_continued : text_read (codes "t") true First (codes " a b") ≡ Err (text.refused (codes "t") 1 C1 [])
+text_continued : text_read (codes "t") true First (codes " a b") ≡ Err (refused (codes "t") 1 C1 [])
 unfolding text_read
 text_continued = refl
 
@@ -88,7 +89,7 @@ inline_table : inline_of (codes "main.cf") 7 true (codes "A=b, {c d = e f} a=g")
 unfolding words_of
 inline_table = refl
 
-space_without_braces : inline_of (codes "main.cf") 7 true (codes "a={b c}") ≡ Err (refused (codes "main.cf") 7 (codes "a={b c}"))
+space_without_braces : inline_of (codes "main.cf") 7 true (codes "a={b c}") ≡ Err (inline.text_refused (codes "main.cf") 7 (codes "a={b c}"))
 unfolding words_of
 space_without_braces = refl
 

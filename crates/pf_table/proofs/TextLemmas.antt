@@ -9,8 +9,9 @@ use Rattle.pf_base.specs.declared.text.logical.TextFault.TheVariants.{Continuati
 use Rattle.pf_base.specs.declared.refused.Cause.TheVariants.{C1}
 use Rattle.pf_base.specs.declared.refused.ConfFault.{ConfFault}
 use Rattle.pf_base.specs.declared.refused.Refused.{Refused}
-use Rattle.pf_table.specs.Clauses.Faults.{as_fault}
-use Rattle.pf_table.specs.Text.{entries_in, entry_of, lines_read, refused, table_with, text_read, unless_continued, with_entry}
+use Rattle.pf_base.specs.Clauses.Faults.{as_fault}
+use Rattle.pf_base.specs.Refusal.{refused}
+use Rattle.pf_table.specs.Text.{entries_in, entry_of, lines_read, table_with, text_read, unless_continued, with_entry}
 use Rattle.pf_table.specs.declared.pairs.Repeats.{Repeats}
 use Rattle.pf_table.specs.declared.text.Entries.{Entries}
 

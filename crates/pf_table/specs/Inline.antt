@@ -8,6 +8,7 @@ use Rattle.pf_base.specs.Options.{◌>>=◌}
 use Rattle.pf_base.specs.Text.Space.{is_space, trimmed}
 use Rattle.pf_base.specs.Text.Words.{words_of}
 use Rattle.pf_base.specs.declared.pair.Pair.{Pair}
+use Rattle.pf_base.specs.Refusal.{refused}
 use Rattle.pf_base.specs.declared.refused.Cause.TheVariants.{C9}
 use Rattle.pf_base.specs.declared.refused.Refused.{Refused}
 use Rattle.pf_base.specs.declared.text.words.WordsFault.{WordsFault}
@@ -68,11 +69,11 @@ abbrev pub inline_pairs : Bool → List ℕ → Option (List Pair)
 inline_pairs folds text = pairs_of_words folds (words_of text)
 
 -- the refusal of a text that is no table
-abbrev pub refused : List ℕ → ℕ → List ℕ → Refused
-refused file line text = record { file = file; line = line; cause = C9; name = codes "inline:{" ++ text ++ codes "}" }
+abbrev pub text_refused : List ℕ → ℕ → List ℕ → Refused
+text_refused file line text = refused file line C9 (codes "inline:{" ++ text ++ codes "}")
 
 abbrev pub or_refused : List ℕ → ℕ → Bool → List ℕ → Option (List Pair) → Result Keyed Refused
-or_refused file line folds text None = Err (refused file line text)
+or_refused file line folds text None = Err (text_refused file line text)
 or_refused file line folds text (Some pairs) = Ok (record { folds = folds; pairs = pairs })
 
 -- the table of a text

@@ -2,10 +2,10 @@
 use Rattle.std.specs.Prelude.{◌≡◌, ℕ, ◌++◌, Bool, List, [], ◌∷◌, Result, Ok, Err, map, if◌then◌else◌}
 use Rattle.std.specs.List.{fold}
 use Rattle.pf_base.specs.Text.Logical.{Grouped, Physical, grouped, physical_lines}
+use Rattle.pf_base.specs.Refusal.{refused}
 use Rattle.pf_base.specs.Results.{◌>>=◌}
 use Rattle.pf_base.specs.declared.text.logical.Logical.{Logical}
 use Rattle.pf_base.specs.declared.pair.Pair.{Pair}
-use Rattle.pf_base.specs.declared.refused.Cause.{Cause}
 use Rattle.pf_base.specs.declared.refused.Cause.TheVariants.{C1, C11}
 use Rattle.pf_base.specs.declared.refused.Refused.{Refused}
 use Rattle.pf_table.specs.Line.{pair_of, reason_text}
@@ -31,9 +31,6 @@ with_entry repeats entries entry = record {
 
 abbrev pub no_entries : Entries
 no_entries = record { pairs = []; repeated = [] }
-
-abbrev pub refused : List ℕ → ℕ → Cause → List ℕ → Refused
-refused file line cause name = record { file = file; line = line; cause = cause; name = name }
 
 -- the entry of a line with this pair, or its refusal
 abbrev pub or_refused : List ℕ → ℕ → Result Pair Reason → Result Entry Refused

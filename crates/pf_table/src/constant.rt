@@ -35,10 +35,8 @@ impl Table for StaticTable {
     ghost meaning = { spec.static_meaning };
 
     fn find(&self, alloc: Global, _: &[u8]) -> Result<Found, TableFault> {
-        match self.value.copy(alloc) {
-            Ok(value) => Ok(Found::Value(value)),
-            Err(NoMemory) => Err(TableFault::NoMemory),
-        }
+        let value = self.value.copy(alloc)?;
+        Ok(Found::Value(value))
     }
 
     fn partial_keys(&self) -> bool {

@@ -5,17 +5,16 @@ ghost use Rattle.std.specs.Option.{option_copied};
 ghost use Rattle.pf_base.specs.Text.Ascii as ascii;
 ghost use Rattle.pf_base.specs.Text.Space as space;
 ghost use Rattle.pf_base.specs.Clauses.Unless.{Unless};
-ghost use Rattle.pf_table.specs.Clauses.Faults.{as_fault};
+ghost use Rattle.pf_base.specs.Clauses.Faults.{as_fault};
 ghost use Rattle.pf_table.specs.Inline as spec;
 ghost use Rattle.pf_table.specs.Tables.{keyed_meaning};
 
 use crate::pairs::{Pairs, Repeats, kept_key};
-use crate::refusal::refused;
 use crate::table::Table;
 use pf_asks::{Found, Results, TableFault};
 use pf_base::{
-    Bytes, Cause, ConfFault, List, NoMemory, Pair, WordsFault, closing_brace, is_space, trimmed,
-    words_of,
+    Bytes, Cause, ConfFault, List, NoMemory, Pair, WordsFault, closing_brace, is_space, refuse,
+    trimmed, words_of,
 };
 use std::alloc::Global;
 use std::marker::Model;
@@ -123,11 +122,11 @@ fn pairs_of(alloc: Global, folds: bool, text: &[u8]) -> Result<Option<Pairs>, No
 
 // The refusal of a text that is no table; it names the whole specification.
 fn text_refused(alloc: Global, file: &[u8], line: u64, text: &[u8]) -> ConfFault
-    ensures { result ≢ ConfFault.NoMemory → result ≡ ConfFault.Refused (spec.refused file.now line text.now) }
+    ensures { result ≢ ConfFault.NoMemory → result ≡ ConfFault.Refused (spec.text_refused file.now line text.now) }
 {
     let mut name = Bytes::new(alloc);
     match name.extend_all(&[b"inline:{", text, b"}"]) {
-        Ok(()) => refused(alloc, file, line, Cause::C9, name.as_slice()),
+        Ok(()) => refuse(alloc, file, line, Cause::C9, name.as_slice()),
         Err(NoMemory) => ConfFault::NoMemory,
     }
 }
@@ -157,10 +156,9 @@ fn table_of(
 ) -> Result<Inline, ConfFault>
     ensures { Unless result ConfFault.NoMemory (λ r. r ≡ as_fault (spec.inline_of file.now line folded text.now)) }
 {
-    match pairs_of(alloc, folded, text) {
-        Err(NoMemory) => Err(ConfFault::NoMemory),
-        Ok(None) => Err(text_refused(alloc, file, line, text)),
-        Ok(Some(pairs)) => Ok(Inline {
+    match pairs_of(alloc, folded, text)? {
+        None => Err(text_refused(alloc, file, line, text)),
+        Some(pairs) => Ok(Inline {
             folds: folded,
             pairs,
         }),
@@ -197,10 +195,8 @@ impl Table for Inline {
     ghost meaning = { keyed_meaning };
 
     fn find(&self, alloc: Global, key: &[u8]) -> Result<Found, TableFault> {
-        match self.pairs.find(alloc, self.folds, key) {
-            Ok(found) => Ok(found),
-            Err(NoMemory) => Err(TableFault::NoMemory),
-        }
+        let found = self.pairs.find(alloc, self.folds, key)?;
+        Ok(found)
     }
 
     fn partial_keys(&self) -> bool {

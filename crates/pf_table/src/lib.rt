@@ -7,7 +7,6 @@ mod inline;
 mod line;
 mod memory;
 mod pairs;
-mod refusal;
 mod table;
 mod text;
 
@@ -16,6 +15,5 @@ pub use first::find_first;
 pub use inline::{Inline, in_brace};
 pub use memory::FixedLookup;
 pub use pairs::{Repeats, kept_key};
-pub use refusal::refused;
 pub use table::Table;
 pub use text::{Repeated, TextRead, TextTable};

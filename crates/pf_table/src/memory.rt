@@ -132,10 +132,8 @@ impl FixedLookup {
         requires { id.0 < length self.now.tables }
         ensures { Unless result TableFault.NoMemory (λ r. r ≡ answer_of (memory.meaning_in (slice_get self.now.tables id.0)) key.now) }
     {
-        match found_in(alloc, self.tables.at(id.0).as_slice(), key) {
-            Ok(found) => Ok(found),
-            Err(NoMemory) => Err(TableFault::NoMemory),
-        }
+        let found = found_in(alloc, self.tables.at(id.0).as_slice(), key)?;
+        Ok(found)
     }
 
     // Which values the table of this place may give.
@@ -143,10 +141,8 @@ impl FixedLookup {
         requires { id.0 < length self.now.tables }
         ensures { Unless result TableFault.NoMemory (λ r. r ≡ Ok ((memory.meaning_in (slice_get self.now.tables id.0)).results)) }
     {
-        match values_in(alloc, self.tables.at(id.0).as_slice()) {
-            Ok(values) => Ok(Results::Listed(values)),
-            Err(NoMemory) => Err(TableFault::NoMemory),
-        }
+        let values = values_in(alloc, self.tables.at(id.0).as_slice())?;
+        Ok(Results::Listed(values))
     }
 }
 

@@ -1,7 +1,7 @@
 //! Text tables (DATABASE_README, texthash).
 ghost use Rattle.std.specs.Prelude.{◌≡◌, IfOk, OnOk};
 ghost use Rattle.pf_base.specs.Clauses.Unless.{Unless};
-ghost use Rattle.pf_table.specs.Clauses.Faults.{as_fault};
+ghost use Rattle.pf_base.specs.Clauses.Faults.{as_fault};
 ghost use Rattle.pf_table.specs.Clauses.Noting.{with_note};
 ghost use Rattle.pf_table.specs.Line.{reason_text};
 ghost use Rattle.pf_table.specs.Tables.{keyed_meaning};
@@ -9,10 +9,11 @@ ghost use Rattle.pf_table.specs.Text as spec;
 
 use crate::line::pair_of;
 use crate::pairs::{Pairs, Repeats};
-use crate::refusal::refused;
 use crate::table::Table;
 use pf_asks::{Found, Results, TableFault};
-use pf_base::{Bytes, Cause, ConfFault, List, Logical, NoMemory, Pair, TextFault, logical_lines};
+use pf_base::{
+    Bytes, Cause, ConfFault, List, Logical, NoMemory, Pair, TextFault, logical_lines, refuse,
+};
 use std::alloc::Global;
 use std::marker::Model;
 
@@ -65,10 +66,9 @@ impl Entries {
 fn entry_of(alloc: Global, file: &[u8], folds: bool, logical: &Logical) -> Result<Entry, ConfFault>
     ensures { Unless result ConfFault.NoMemory (λ r. r ≡ as_fault (spec.entry_of file.now folds logical.now)) }
 {
-    match pair_of(alloc, folds, logical.text.as_slice()) {
-        Err(NoMemory) => Err(ConfFault::NoMemory),
-        Ok(Err(reason)) => Err(refused(alloc, file, logical.line, Cause::C11, reason.text())),
-        Ok(Ok(pair)) => Ok(Entry {
+    match pair_of(alloc, folds, logical.text.as_slice())? {
+        Err(reason) => Err(refuse(alloc, file, logical.line, Cause::C11, reason.text())),
+        Ok(pair) => Ok(Entry {
             line: logical.line,
             pair,
         }),
@@ -133,7 +133,7 @@ fn read_text(
     let lines = match logical_lines(alloc, text) {
         Ok(lines) => lines,
         Err(TextFault::Continuation { line }) => {
-            return Err(refused(alloc, file, line, Cause::C1, &[]));
+            return Err(refuse(alloc, file, line, Cause::C1, &[]));
         }
         Err(TextFault::NoMemory) => return Err(ConfFault::NoMemory),
     };
@@ -178,10 +178,8 @@ impl Table for TextTable {
     ghost meaning = { keyed_meaning };
 
     fn find(&self, alloc: Global, key: &[u8]) -> Result<Found, TableFault> {
-        match self.pairs.find(alloc, self.folds, key) {
-            Ok(found) => Ok(found),
-            Err(NoMemory) => Err(TableFault::NoMemory),
-        }
+        let found = self.pairs.find(alloc, self.folds, key)?;
+        Ok(found)
     }
 
     fn partial_keys(&self) -> bool {

@@ -11,7 +11,7 @@ pub returns-in-Err-Continuation : goal.returns-in-Err-Continuation
 returns-in-Err-Continuation c = λ memory.
     let lines = rw c.in-Err-Continuation.field-0-is at c.in-Err-Continuation.ensures in
     rw (
-      c.refused.ensures memory,
+      c.refuse.ensures memory,
       continued c.args.file.now c.args.folded c.args.repeats c.args.text.now c.in-Err-Continuation.line
           (lines (continuation_is_not_memory c.in-Err-Continuation.line)),
       c.in-Err-Continuation.line-is,
