@@ -3,7 +3,7 @@
 
 usage: bench/expansion.py [SETTINGS ..]      (1000, 2000, 5000 and 10000 where they are left out)
 
-It runs the program of params_tests, as `rt run` in that crate's folder leaves it built, on one row, and prints for each
+It runs the program row_tests, as `rt run` in that crate's folder leaves it built, on one row, and prints for each
 number the seconds and the greatest resident memory, which is at least that of this script, from which the program is started.
 """
 import os
@@ -13,8 +13,8 @@ import tempfile
 import time
 from pathlib import Path
 
-CRATE = Path(__file__).resolve().parent.parent / "crates/params_tests"
-PROGRAM = CRATE / "out/params_tests"
+CRATE = Path(__file__).resolve().parent.parent / "crates/row_tests"
+PROGRAM = CRATE / "out/row_tests"
 # the bytes of the value of one setting: ten values of two letters, with blanks between them
 LENGTH = 29
 
@@ -22,13 +22,14 @@ LENGTH = 29
 def measure(settings):
     row = f"many {settings}¦¦{LENGTH * settings}\n".encode()
     with tempfile.TemporaryDirectory() as folder:
-        (Path(folder) / "rows").write_bytes(row)
+        for library in (CRATE / "data").iterdir():
+            (Path(folder) / library.name).write_bytes(row if library.name == "params" else b"")
         start = time.monotonic()
         process = subprocess.Popen([PROGRAM], cwd=folder, stdout=subprocess.PIPE)
         said = process.stdout.read()
         _, status, usage = os.wait4(process.pid, 0)
         seconds = time.monotonic() - start
-    if os.waitstatus_to_exitcode(status) != 0 or said != b"1 rows\n":
+    if os.waitstatus_to_exitcode(status) != 0 or b"params: 1 rows\n" not in said:
         sys.exit(f"expansion.py: at {settings} settings: {said.decode()}")
     print(f"{settings} settings: {seconds:.3f} s, {usage.ru_maxrss / 1024:.1f} MiB")
 

@@ -1,14 +1,18 @@
-//! What pf_base says of texts.
+//! What pf_base says of texts, by the kinds of its rows:
+//!
+//! - `bytes`: what bytes hold that were made of the first part of the text (`|` parts it), one byte, a piece and three pieces,
+//!   then their copy, and their length once they are cleared
+//! - `list`: the bytes of the text, taken from the end of a list
+//! - `refusal`: the line that says that a file is not there; the text is its name and a name
+//! - `words`: the words of the text, each with a bar after it, or where a brace is that has no partner
+//! - `brace`: where the text has its first closing brace without a partner
+//! - `texts`: the line of a table text and the text, among those of main.cf; without a text, how many these are, and the file
+//! - `folded`: the text in small letters
+use crate::add_number;
 use pf_base::{
-    Bytes, Cause, List, NoMemory, Refused, Specs, WordsFault, closing_brace, cut_at, decimal, fold,
-    words_of,
+    Bytes, Cause, List, NoMemory, Refused, Specs, WordsFault, closing_brace, cut_at, fold, words_of,
 };
 use std::alloc::Global;
-
-fn add_number(alloc: Global, said: &mut Bytes, number: u64) -> Result<(), NoMemory> {
-    let digits = decimal(alloc, number)?;
-    said.extend(digits.as_bytes())
-}
 
 // A text parted at its first bar.
 fn parts(text: &[u8]) -> (&[u8], &[u8]) {

@@ -1,5 +1,14 @@
-//! Questions to the settings of a main.cf, each with its answer as a text. One function alone owns settings.
-use pf_base::{Bytes, ConfFault, List, NoMemory, Specs, TableId, decimal};
+//! What the settings of a main.cf say. bench/expansion.py asks a row of its own. One function alone owns settings.
+//!
+//! The text of a row is a main.cf, and its prefix asks what the value of a parameter says (`value NAME`), the line of its last
+//! setting (`line NAME`, and `behind NAME` where `mail_name = b` counts after the text), the line and the items of a class
+//! (`class NAME`), what is read of a parameter whatever there is of others (`known NAME`, and `known` the first refusal of the
+//! classes), the table texts (`tables`), how many parameters have their places (`places`), or the lengths of the values of so many
+//! settings with ten names each, summed (`many NUMBER`). A text that is refused says the line of that.
+use crate::add_number;
+use crate::known::add_known;
+use crate::many::add_many;
+use pf_base::{Bytes, ConfFault, List, NoMemory, Specs, TableId};
 use pf_catalogue::{Kind, PARAMS, Param, param};
 use pf_maincf::{MainCf, Setting};
 use pf_params::Settings;
@@ -14,12 +23,6 @@ pub enum Question<'a> {
     Class(&'a [u8]),
     Tables,
     Many(u64),
-}
-
-/// Adds a number in digits.
-pub fn add_number(alloc: Global, said: &mut Bytes, number: u64) -> Result<(), NoMemory> {
-    let digits = decimal(alloc, number)?;
-    said.extend(digits.as_bytes())
 }
 
 // Adds items, each in angle brackets.
@@ -196,8 +199,8 @@ pub fn asked(
     }
 }
 
-/// Adds how many parameters have the place of which they are the parameter.
-pub fn add_places(alloc: Global, said: &mut Bytes) -> Result<(), NoMemory> {
+// Adds how many parameters have the place of which they are the parameter.
+fn add_places(alloc: Global, said: &mut Bytes) -> Result<(), NoMemory> {
     let mut count: u64 = 0;
     for place in 0..PARAMS {
         if Param::at(place).place() == place {
@@ -205,4 +208,25 @@ pub fn add_places(alloc: Global, said: &mut Bytes) -> Result<(), NoMemory> {
         }
     }
     add_number(alloc, said, count)
+}
+
+/// Adds what is said of a main.cf, of what a row asks.
+pub fn add_said(
+    alloc: Global,
+    said: &mut Bytes,
+    prefix: &str,
+    text: &[u8],
+) -> Result<(), NoMemory> {
+    let (kind, name) = prefix.split_once(' ').unwrap_or((prefix, ""));
+    match kind {
+        "value" => asked(alloc, said, text, 0, Question::Value(name.as_bytes())),
+        "line" => asked(alloc, said, text, 0, Question::Line(name.as_bytes())),
+        "behind" => asked(alloc, said, text, 1, Question::Line(name.as_bytes())),
+        "class" => asked(alloc, said, text, 0, Question::Class(name.as_bytes())),
+        "tables" => asked(alloc, said, text, 0, Question::Tables),
+        "known" => add_known(alloc, said, text, name.as_bytes()),
+        "places" => add_places(alloc, said),
+        "many" => add_many(alloc, said, name.parse::<u64>().unwrap_or(0)),
+        _ => said.extend(b"no such kind"),
+    }
 }

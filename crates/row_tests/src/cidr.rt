@@ -1,17 +1,13 @@
-//! Reads rows of addresses, nets and tables of nets as they are written and of what is said of each, and prints the rows where
-//! pf_cidr says otherwise, and how many rows there were.
+//! What pf_cidr says of addresses, nets and tables of nets as they are written.
 //!
-//! A row is `KIND¦TEXT¦ANSWER`, and a line feed of the text is as `␤`. Of the kind `read` the text is an address and the
+//! Of the kind `read` the text is an address and the
 //! answer the address as it is printed, or `none`; of the kind `net` a net, and `net`, `host bits` or `syntax`; of the kind
 //! `has` a net and on the next line an address, and `yes` or `no`; of the kind `table` the text of a table, and the number of its
 //! rules or the line of its refusal; of the kind `find` an address and from the next line on the text of a table, and the result
-//! of the first rule that applies, or `nothing`. Rows that begin with `# ` are comments.
-#![tactic(auto)]
-
+//! of the first rule that applies, or `nothing`.
 use pf_base::{Bytes, ConfFault, NoMemory, cut_at, decimal};
 use pf_cidr::{Addr, CidrTable, Net, NetFault};
 use std::alloc::Global;
-use std::io;
 
 // The name of each table's file.
 const FILE: &[u8] = b"t";
@@ -94,7 +90,7 @@ fn found(alloc: Global, text: &[u8]) -> Result<Bytes, NoMemory> {
 }
 
 // What is said of a text.
-fn said(alloc: Global, kind: &str, text: &[u8]) -> Result<Bytes, NoMemory> {
+fn said_of(alloc: Global, kind: &str, text: &[u8]) -> Result<Bytes, NoMemory> {
     match kind {
         "read" => printed(alloc, text),
         "net" => Bytes::from_slice(alloc, judged(text)),
@@ -105,36 +101,7 @@ fn said(alloc: Global, kind: &str, text: &[u8]) -> Result<Bytes, NoMemory> {
     }
 }
 
-// Prints a row where something else is said of its text.
-fn look_at(rt: &HostRuntime, alloc: Global, row: &str) -> io::Result<()> {
-    let Some((kind, rest)) = row.split_once('¦') else {
-        return println!(rt; "no row: {row}");
-    };
-    let Some((text, answer)) = rest.split_once('¦') else {
-        return println!(rt; "no row: {row}");
-    };
-    let text = text.replace(alloc, '␤', "\n")?;
-    match said(alloc, kind, text.as_bytes()) {
-        Ok(bytes) => {
-            if bytes.as_slice() != answer.as_bytes() {
-                println!(rt; "not so: {row}")?;
-            }
-        }
-        Err(NoMemory) => println!(rt; "no memory: {row}")?,
-    }
-    Ok(())
-}
-
-fn main(rt: HostRuntime) -> io::Result<()> {
-    let alloc = rt.alloc();
-    let mut rows: u64 = 0;
-    for line in rt.lines(alloc) {
-        let line = line?;
-        if line.as_str().starts_with("# ") {
-            continue;
-        }
-        look_at(&rt, alloc, line.as_str())?;
-        rows = rows.saturating_add(1);
-    }
-    println!(rt; "{rows} rows")
+/// Adds what is said of a text, of what a row asks.
+pub fn add_said(alloc: Global, said: &mut Bytes, kind: &str, text: &[u8]) -> Result<(), NoMemory> {
+    said.extend(said_of(alloc, kind, text)?.as_slice())
 }

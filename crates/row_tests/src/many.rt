@@ -1,5 +1,6 @@
 //! A main.cf of many settings.
-use crate::said::{Question, add_number, asked};
+use crate::add_number;
+use crate::params::{Question, asked};
 use pf_base::{Bytes, NoMemory};
 use std::alloc::Global;
 

@@ -1,19 +1,16 @@
-//! Says what words say, of the rows of the file `rows`.
+//! What pf_words says of words.
 //!
 //! A row asks of its text, words that blanks part, in which `@` is nothing, so that it stands for an empty word, and `_` a blank:
 //! what `words_of` says (`words`), the names of the files of the record and the log (`sinks`), the text `a = 1` after the edit
 //! that the words ask for (`edit`), and what a part of a word is (`setting`, `ipv4`, `octet`); `no words` has none.
-#![tactic(auto)]
-
-use pf_base::{Bytes, ConfFault, NoMemory, decimal};
+use crate::add_number;
+use pf_base::{Bytes, ConfFault, NoMemory};
 use pf_maincf::MainCf;
 use pf_words::{
     ConfMode, ConfWords, Shape, SmtpdWords, Words, ipv4_of, octet_of, setting_of_word,
     settings_of_words, sink_names, words_of,
 };
-use row_files::{Says, judge_rows};
 use std::alloc::Global;
-use std::process::ExitCode;
 
 // A word as the rows write it.
 fn word(alloc: Global, written: &str) -> Result<String, NoMemory> {
@@ -41,11 +38,6 @@ fn add_value(said: &mut Bytes, name: &[u8], value: &Option<Bytes>) -> Result<(),
         None => Ok(()),
         Some(value) => said.extend_all(&[name, value.as_slice()]),
     }
-}
-
-fn add_number(alloc: Global, said: &mut Bytes, number: u64) -> Result<(), NoMemory> {
-    let digits = decimal(alloc, number)?;
-    said.extend(digits.as_bytes())
 }
 
 fn add_smtpd(alloc: Global, said: &mut Bytes, words: &SmtpdWords) -> Result<(), NoMemory> {
@@ -157,27 +149,13 @@ fn add_part(alloc: Global, said: &mut Bytes, kind: &str, word: &str) -> Result<(
     }
 }
 
-#[derive(Drop)]
-struct Asked;
-
-impl Says for Asked {
-    fn say(
-        &mut self,
-        alloc: Global,
-        said: &mut Bytes,
-        prefix: &str,
-        text: &str,
-    ) -> Result<(), NoMemory> {
-        let list = words(alloc, text)?;
-        match prefix {
-            "words" => add_words(alloc, said, list.as_slice()),
-            "sinks" => add_sinks(alloc, said, list.as_slice()),
-            "edit" => add_edit(alloc, said, list.as_slice()),
-            _ => add_part(alloc, said, prefix, text),
-        }
+/// Adds what is said of a text, of what a row asks.
+pub fn add_said(alloc: Global, said: &mut Bytes, kind: &str, text: &str) -> Result<(), NoMemory> {
+    let list = words(alloc, text)?;
+    match kind {
+        "words" => add_words(alloc, said, list.as_slice()),
+        "sinks" => add_sinks(alloc, said, list.as_slice()),
+        "edit" => add_edit(alloc, said, list.as_slice()),
+        _ => add_part(alloc, said, kind, text),
     }
-}
-
-fn main(rt: HostRuntime) -> ExitCode {
-    judge_rows(&rt, &mut Asked)
 }

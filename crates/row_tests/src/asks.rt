@@ -1,4 +1,8 @@
-//! What a resolver and a service in memory answer.
+//! What a resolver and a service of pf_asks answer in memory, by the kinds of its rows:
+//!
+//! - `resolver N`: what a resolver of one address answers for the mail exchangers and then the addresses of the text, where its
+//!   question of number N fails
+//! - `links STEP`: what two tries of a service come to, of which the first is down at STEP and the second replies the text
 use pf_asks::{
     Answer, AskFault, Kind, LinkStep, Links, MemLinks, MemResolver, Outcome, Resolver, Row,
 };
@@ -41,8 +45,8 @@ fn add_answer(said: &mut Bytes, answer: Result<Answer, AskFault>) -> Result<(), 
     }
 }
 
-/// Adds what a resolver of one address answers for the mail exchangers and then the addresses of a name.
-pub fn add_resolver(
+// Adds what a resolver of one address answers for the mail exchangers and then the addresses of a name.
+fn add_resolver(
     alloc: Global,
     said: &mut Bytes,
     failing: u64,
@@ -98,13 +102,8 @@ fn add_try(said: &mut Bytes, links: &mut MemLinks) -> Result<(), NoMemory> {
     }
 }
 
-/// Adds what two tries of a service come to, of which the first is down at a step and the second replies so.
-pub fn add_links(
-    alloc: Global,
-    said: &mut Bytes,
-    step: &str,
-    reply: &[u8],
-) -> Result<(), NoMemory> {
+// Adds what two tries of a service come to, of which the first is down at a step and the second replies so.
+fn add_links(alloc: Global, said: &mut Bytes, step: &str, reply: &[u8]) -> Result<(), NoMemory> {
     let mut links = service(alloc, step_named(step), reply)?;
     add_try(said, &mut links)?;
     links.hang_up();
@@ -112,4 +111,20 @@ pub fn add_links(
     add_try(said, &mut links)?;
     links.hang_up();
     Ok(())
+}
+
+/// Adds what is answered of a text, of what a row asks.
+pub fn add_said(
+    alloc: Global,
+    said: &mut Bytes,
+    prefix: &str,
+    text: &[u8],
+) -> Result<(), NoMemory> {
+    match prefix.split_once(' ') {
+        Some(("resolver", number)) => {
+            add_resolver(alloc, said, number.parse::<u64>().unwrap_or(0), text)
+        }
+        Some(("links", step)) => add_links(alloc, said, step, text),
+        _ => said.extend(b"no such kind"),
+    }
 }

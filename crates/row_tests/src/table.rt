@@ -1,36 +1,25 @@
-//! Reads rows of table texts and of what each holds or answers, and prints what pf_table says where it says otherwise, and how
-//! many rows there were.
+//! What pf_table says of texts of tables.
 //!
 //! A row is `KIND¦TEXT¦SAID`. KIND is `text` or `inline`, with ` -f` after it where keys are not folded and ` -r` where the last
 //! of repeated keys counts; SAID then has the pairs, each as `KEY=VALUE`, and the repeated keys, each as `#LINE KEY`, all parted by
 //! bars, or the line of the refusal. Where a KEY is after KIND and a question mark, SAID is the value, `none` or `fails`; where
 //! an asterisk is there, SAID is `partial` and each value that the table may give. Such a KIND may also be `static` or `fail`. In
 //! `first N?KEY` TEXT is inline tables, parted by `;`, that are asked in turn, and the lookup of number N fails: then SAID may be
-//! `failed`. A line feed, a carriage return, a tab and a byte of 0 are `␊`, `␍`, `␉` and `␀`.
-//! Rows that begin with `# ` are comments.
-#![tactic(auto)]
-
+//! `failed`.
 use pf_asks::{Found, Results, TableFault};
 use pf_base::{Bytes, ConfFault, List, NoMemory, Pair, TableId, decimal};
 use pf_table::{
     FailTable, FixedLookup, Inline, Repeated, Repeats, StaticTable, Table, TextTable, find_first,
 };
-use std::alloc::{AllocError, Global};
-use std::io;
+use std::alloc::Global;
 
 const BAR: &str = "¦";
 
-// A row with its control bytes.
-fn decoded(alloc: Global, row: &str) -> Result<String, AllocError> {
-    let row = row.replace(alloc, '␊', "\n")?;
-    let row = row.as_str().replace(alloc, '␍', "\r")?;
-    let row = row.as_str().replace(alloc, '␉', "\t")?;
-    row.as_str().replace(alloc, '␀', "\0")
-}
-
-// Adds a bar and a field.
+// Adds a field, after a bar where there is one before it.
 fn add_field(said: &mut Bytes, parts: &[&[u8]]) -> Result<(), NoMemory> {
-    said.extend(BAR.as_bytes())?;
+    if said.len() > 0 {
+        said.extend(BAR.as_bytes())?;
+    }
     said.extend_all(parts)
 }
 
@@ -204,8 +193,8 @@ fn say(
     }
 }
 
-// What is said of the tables of a text.
-fn say_of(alloc: Global, said: &mut Bytes, prefix: &str, text: &str) -> Result<(), NoMemory> {
+/// Adds what is said of the tables of a text, of what a row asks.
+pub fn add_said(alloc: Global, said: &mut Bytes, prefix: &str, text: &str) -> Result<(), NoMemory> {
     match prefix.split_once('?') {
         Some((kind, key)) => match kind.strip_prefix("first ") {
             Some(number) => {
@@ -218,42 +207,4 @@ fn say_of(alloc: Global, said: &mut Bytes, prefix: &str, text: &str) -> Result<(
             None => say(alloc, said, prefix, text, Question::Pairs),
         },
     }
-}
-
-// The row of a table, as it should be.
-fn row_of(alloc: Global, prefix: &str, text: &str) -> Result<Bytes, NoMemory> {
-    let mut said = Bytes::from_slice(alloc, prefix.as_bytes())?;
-    add_field(&mut said, &[text.as_bytes()])?;
-    say_of(alloc, &mut said, prefix, text)?;
-    Ok(said)
-}
-
-// Prints a row that is not as it should be.
-fn look_at(rt: &HostRuntime, alloc: Global, row: &str) -> io::Result<()> {
-    let (prefix, behind) = row.split_once('¦').unwrap_or((row, ""));
-    let (text, _) = behind.split_once('¦').unwrap_or((behind, ""));
-    match row_of(alloc, prefix, text) {
-        Ok(said) => {
-            if said.as_slice() != row.as_bytes() {
-                println!(rt; "not so: {row}")?;
-            }
-        }
-        Err(NoMemory) => println!(rt; "no memory: {row}")?,
-    }
-    Ok(())
-}
-
-fn main(rt: HostRuntime) -> io::Result<()> {
-    let alloc = rt.alloc();
-    let mut rows: u64 = 0;
-    for line in rt.lines(alloc) {
-        let line = line?;
-        if line.as_str().starts_with("# ") {
-            continue;
-        }
-        let row = decoded(alloc, line.as_str())?;
-        look_at(&rt, alloc, row.as_str())?;
-        rows = rows.saturating_add(1);
-    }
-    println!(rt; "{rows} rows")
 }

@@ -1,5 +1,6 @@
 //! What is read of one parameter.
-use crate::said::{add_fault, add_number};
+use crate::add_number;
+use crate::params::add_fault;
 use pf_base::{Bytes, ConfFault, List, NoMemory};
 use pf_catalogue::{Param, param};
 use pf_maincf::MainCf;
