@@ -5,10 +5,10 @@ use Rattle.std.specs.Str.{bytes_eq}
 use Rattle.pf_maincf.specs.Edit.{differ, first_differs}
 use Rattle.pf_maincf.specs.declared.setting.Setting.{Setting}
 
-any_name : (p : List ℕ → Bool) (sets : List Setting) → list_any p (map (λ (set : Setting). set.name) sets) ≡ list_any (λ (set : Setting). p set.name) sets
+any_name : (p : List ℕ → Bool) (assignments : List Setting) → list_any p (map (λ (assignment : Setting). assignment.name) assignments) ≡ list_any (λ (assignment : Setting). p assignment.name) assignments
 any_name p [] = refl
-any_name p (set ∷ sets) = ap (λ b. p set.name || b) (any_name p sets)
+any_name p (assignment ∷ assignments) = ap (λ b. p assignment.name || b) (any_name p assignments)
 
-pub differ_step : (sets : List Setting) → differ (map (λ (set : Setting). set.name) sets) ≡ (first_differs sets && differ (map (λ (set : Setting). set.name) (drop 1 sets)))
+pub differ_step : (assignments : List Setting) → differ (map (λ (assignment : Setting). assignment.name) assignments) ≡ (first_differs assignments && differ (map (λ (assignment : Setting). assignment.name) (drop 1 assignments)))
 differ_step [] = refl
-differ_step (set ∷ sets) = ap (λ b. not b && differ (map (λ (set : Setting). set.name) sets)) (any_name (bytes_eq set.name) sets)
+differ_step (assignment ∷ assignments) = ap (λ b. not b && differ (map (λ (assignment : Setting). assignment.name) assignments)) (any_name (bytes_eq assignment.name) assignments)

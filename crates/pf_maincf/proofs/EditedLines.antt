@@ -7,33 +7,33 @@ use Rattle.pf_base.specs.Text.Logical.{Physical, Grouped, alone, grouped, is_ign
 use Rattle.pf_base.specs.declared.text.logical.Logical.{Logical}
 use Rattle.pf_base.proofs.LineEnds.{lines-append, lines-cons, lines-nil, parts_are, rest-append, rest-cons, rest-nil}
 use Rattle.std.proofs.lemmas.Bool.{eqb-true}
-use Rattle.pf_maincf.specs.Edit.{Line, blocks_from, edited_lines, feed_behind, is_ended, set_at, set_line, with_line}
-use Rattle.pf_maincf.specs.Clauses.Editing.{blocks_left, line_left, set_from}
+use Rattle.pf_maincf.specs.Edit.{Line, blocks_from, edited_lines, feed_behind, is_ended, assignment_at, assignment_line, with_line}
+use Rattle.pf_maincf.specs.Clauses.Editing.{blocks_left, line_left, assignment_from}
 use Rattle.pf_maincf.specs.declared.setting.Setting.{Setting}
 use Rattle.pf_maincf.proofs.BlockLemmas.{left_more}
 use Rattle.pf_maincf.proofs.Ends.{IsClean, clean_lines, clean_rest, either_option, either_way, has_feed, lines_at, lines_none, rest_at, rest_none}
 use Rattle.pf_maincf.proofs.Joined.{Texts, fold_line, fold_text, joined, joined_append, parts, then_texts, unless_text_ignored}
-use Rattle.pf_maincf.proofs.SetLines.{IsSet, set_text, text_begins, text_feed, text_is_not_ignored, text_whole}
+use Rattle.pf_maincf.proofs.AssignmentLines.{IsSet, assignment_text, text_begins, text_feed, text_is_not_ignored, text_whole}
 
--- each set has a line that one can write
+-- each assignment has a line that one can write
 abbrev pub AreWritten : List Setting → Type 0
-AreWritten sets = (line : ℕ) (set : Setting) → set_at sets line ≡ Some set → IsSet set
+AreWritten assignments = (line : ℕ) (assignment : Setting) → assignment_at assignments line ≡ Some assignment → IsSet assignment
 
 -- the lines that continue one that gave way are gone with it
 abbrev pub leading_after : Option Setting → List (List ℕ) → List (List ℕ)
 leading_after None leading = leading
-leading_after (Some set) leading = []
+leading_after (Some assignment) leading = []
 
 abbrev pub text_after : Option Setting → List ℕ → List ℕ
 text_after None text = text
-text_after (Some set) text = set_text set
+text_after (Some assignment) text = assignment_text assignment
 
 abbrev pub logical_after : List Setting → Logical → List ℕ
-logical_after sets l = text_after (set_at sets l.line) l.text
+logical_after assignments l = text_after (assignment_at assignments l.line) l.text
 
--- the lines from one on, after lines the last of which is in the logical line of this set
+-- the lines from one on, after lines the last of which is in the logical line of this assignment
 abbrev pub after : List Setting → Option Setting → Grouped → Texts
-after sets set g = record { leading = leading_after set (map (λ p. p.text) g.leading); logical = map (logical_after sets) g.logical }
+after assignments assignment g = record { leading = leading_after assignment (map (λ p. p.text) g.leading); logical = map (logical_after assignments) g.logical }
 
 parts_at : (line X : List ℕ) → has_feed line ≡ false → parts ((line ++ 10 ∷ []) ++ X) ≡ line ∷ parts X
 parts_at line X h = rw (append_assoc line (10 ∷ []) X, lines_at line X h, rest_at line X h)
@@ -44,43 +44,43 @@ parts_alone line h = rw (lines_none line h, rest_none line h)
 parts_nil : parts [] ≡ [] ∷ []
 parts_nil = rw (lines-nil, rest-nil)
 
--- the line of a set before others begins a logical line of its own
-set_before : (set : Setting) (X : List ℕ) → IsSet set
-    → joined (parts (set_line set ++ X))
-    ≡ record { leading = []; logical = fold (λ prefix line. prefix ++ line) (set_text set) (joined (parts X)).leading ∷ (joined (parts X)).logical }
-set_before set X s =
-    rw (parts_at (set_text set) X (text_feed set s), text_whole set s, text_is_not_ignored set s, text_begins set s)
+-- the line of an assignment before others begins a logical line of its own
+assignment_before : (assignment : Setting) (X : List ℕ) → IsSet assignment
+    → joined (parts (assignment_line assignment ++ X))
+    ≡ record { leading = []; logical = fold (λ prefix line. prefix ++ line) (assignment_text assignment) (joined (parts X)).leading ∷ (joined (parts X)).logical }
+assignment_before assignment X s =
+    rw (parts_at (assignment_text assignment) X (text_feed assignment s), text_whole assignment s, text_is_not_ignored assignment s, text_begins assignment s)
 
 pub none_leading : (o : Option Setting) → leading_after o [] ≡ []
 none_leading None = refl
-none_leading (Some set) = refl
+none_leading (Some assignment) = refl
 
 -- one line more, where what stays of it is read as it was
 abbrev Stays : List ℕ → List ℕ → List ℕ → Type 0
 Stays line feed X = joined (parts ((line ++ feed) ++ X)) ≡ unless_text_ignored (without_return line) (joined (parts X))
 
-one_more : (sets : List Setting) (set : Option Setting) (number : ℕ) (line : Line) (X : List ℕ) (g : Grouped) → AreWritten sets → Stays line.text line.feed X
-    → joined (parts X) ≡ after sets (set_from sets set number line.text) g
-    → joined (parts (line_left (set_from sets set number line.text) line ++ X))
-    ≡ after sets set (unless_ignored (record { number = number; text = without_return line.text }) g)
-one_more sets set number line X g written stays behind =
+one_more : (assignments : List Setting) (assignment : Option Setting) (number : ℕ) (line : Line) (X : List ℕ) (g : Grouped) → AreWritten assignments → Stays line.text line.feed X
+    → joined (parts X) ≡ after assignments (assignment_from assignments assignment number line.text) g
+    → joined (parts (line_left (assignment_from assignments assignment number line.text) line ++ X))
+    ≡ after assignments assignment (unless_ignored (record { number = number; text = without_return line.text }) g)
+one_more assignments assignment number line X g written stays behind =
     let text = without_return line.text in
     let p : Physical = record { number = number; text = text } in
     either_way (is_ignored text) (λ h. let here = rw h at behind in
-    either_option set (λ none. rw (h, none) (stays ∙ rw h (rw none at here))) (λ s is. rw (h, is) (stays ∙ rw h (rw is at here)))) (λ h.
+    either_option assignment (λ none. rw (h, none) (stays ∙ rw h (rw none at here))) (λ s is. rw (h, is) (stays ∙ rw h (rw is at here)))) (λ h.
     either_way (starts_with_space text) (λ k.
     let here = rw (h, k) at behind in
-    either_option set
+    either_option assignment
     (λ none. rw (h, k, none) (stays ∙ rw (h, k)
     (ap (λ (T : Texts). let U : Texts = record { leading = text ∷ T.leading; logical = T.logical } in U) (rw none at here))))
     (λ s is. rw (h, k, is) (rw is at here))) (λ k.
     let here = rw (h, k) at behind in
     let onto = λ (prefix : List ℕ) (T : Texts). let U : Texts = record { leading = []; logical = fold (λ prefix line. prefix ++ line) prefix T.leading ∷ T.logical } in U in
-    either_option (set_at sets number)
-    (λ none. rw (h, k, fold_line (alone p) g.leading, fold_text (alone p) g.leading, none_leading set, none)
+    either_option (assignment_at assignments number)
+    (λ none. rw (h, k, fold_line (alone p) g.leading, fold_text (alone p) g.leading, none_leading assignment, none)
     (stays ∙ rw (h, k) (ap (onto text) (rw none at here))))
-    (λ s is. rw (h, k, fold_line (alone p) g.leading, none_leading set, is)
-    (set_before s X (written number s is) ∙ ap (onto (set_text s)) (rw is at here)))))
+    (λ s is. rw (h, k, fold_line (alone p) g.leading, none_leading assignment, is)
+    (assignment_before s X (written number s is) ∙ ap (onto (assignment_text s)) (rw is at here)))))
 
 stays_alone : (line : List ℕ) → has_feed line ≡ false → Stays line [] []
 stays_alone line h = rw (append-nil (line ++ []), append-nil line, parts_alone line h, parts_nil)
@@ -92,31 +92,31 @@ stays_before line X h = rw (parts_at line X h)
 abbrev lines_with : List (List ℕ) → List ℕ → List Line
 lines_with ls last = map (λ line. record { text = line; feed = 10 ∷ [] }) ls ++ record { text = last; feed = [] } ∷ []
 
-edited_from : (sets : List Setting) → AreWritten sets → (set : Option Setting) (number : ℕ) (ls : List (List ℕ)) (last : List ℕ) → IsClean ls → has_feed last ≡ false
-    → joined (parts (blocks_left sets set (blocks_from number (lines_with ls last)))) ≡ after sets set (grouped (numbered number (ls ++ last ∷ [])))
-edited_from sets written set number [] last clean feed =
+edited_from : (assignments : List Setting) → AreWritten assignments → (assignment : Option Setting) (number : ℕ) (ls : List (List ℕ)) (last : List ℕ) → IsClean ls → has_feed last ≡ false
+    → joined (parts (blocks_left assignments assignment (blocks_from number (lines_with ls last)))) ≡ after assignments assignment (grouped (numbered number (ls ++ last ∷ [])))
+edited_from assignments written assignment number [] last clean feed =
     let line : Line = record { text = last; feed = [] } in
-    rw (left_more sets set number line (record { prefix = []; blocks = [] }))
-    (one_more sets set number line [] (record { leading = []; logical = [] }) written (stays_alone last feed)
-    (ap joined parts_nil ∙ sym (ap (λ (l : List (List ℕ)). let T : Texts = record { leading = l; logical = [] } in T) (none_leading (set_from sets set number last)))))
-edited_from sets written set number (first ∷ ls) last clean feed =
+    rw (left_more assignments assignment number line (record { prefix = []; blocks = [] }))
+    (one_more assignments assignment number line [] (record { leading = []; logical = [] }) written (stays_alone last feed)
+    (ap joined parts_nil ∙ sym (ap (λ (l : List (List ℕ)). let T : Texts = record { leading = l; logical = [] } in T) (none_leading (assignment_from assignments assignment number last)))))
+edited_from assignments written assignment number (first ∷ ls) last clean feed =
     let line : Line = record { text = first; feed = 10 ∷ [] } in
     let behind = blocks_from (number + 1) (lines_with ls last) in
-    let here = set_from sets set number first in
-    rw (left_more sets set number line behind)
-    (one_more sets set number line (blocks_left sets here behind) (grouped (numbered (number + 1) (ls ++ last ∷ []))) written
-    (stays_before first (blocks_left sets here behind) clean.0) (edited_from sets written here (number + 1) ls last clean.1 feed))
+    let here = assignment_from assignments assignment number first in
+    rw (left_more assignments assignment number line behind)
+    (one_more assignments assignment number line (blocks_left assignments here behind) (grouped (numbered (number + 1) (ls ++ last ∷ []))) written
+    (stays_before first (blocks_left assignments here behind) clean.0) (edited_from assignments written here (number + 1) ls last clean.1 feed))
 
--- each logical line of an edited text is the one that was there, or the line of the set at it
-pub lines_edited : (sets : List Setting) (text : List ℕ) → AreWritten sets → joined (parts (edited_lines sets text)) ≡ after sets None (grouped (physical_lines text))
-lines_edited sets text written =
-    edited_from sets written None 1 (lines text) (rest text) (clean_lines text) (clean_rest text)
-    ∙ ap (λ ps. after sets None (grouped (numbered 1 ps))) (sym (parts_are text))
+-- each logical line of an edited text is the one that was there, or the line of the assignment at it
+pub lines_edited : (assignments : List Setting) (text : List ℕ) → AreWritten assignments → joined (parts (edited_lines assignments text)) ≡ after assignments None (grouped (physical_lines text))
+lines_edited assignments text written =
+    edited_from assignments written None 1 (lines text) (rest text) (clean_lines text) (clean_rest text)
+    ∙ ap (λ ps. after assignments None (grouped (numbered 1 ps))) (sym (parts_are text))
 
--- sets that lines can say
-abbrev pub AllSets : List Setting → Type 0
-AllSets [] = Unit {0}
-AllSets (set ∷ sets) = IsSet set × AllSets sets
+-- assignments that lines can say
+abbrev pub AllAssignments : List Setting → Type 0
+AllAssignments [] = Unit {0}
+AllAssignments (assignment ∷ assignments) = IsSet assignment × AllAssignments assignments
 
 no_item : (xs : List ℕ) → is_ended xs ≡ true → rest xs ≡ []
 no_item [] h = rest-nil
@@ -148,30 +148,30 @@ ended X =
       same = rw (lines-append X (10 ∷ []), feed_lines, append-nil (rest X));
     }))
 
-alone_joined : (set : Setting) → IsSet set → joined (set_text set ∷ [] ∷ []) ≡ record { leading = []; logical = set_text set ∷ [] }
-alone_joined set s = rw (text_whole set s, text_is_not_ignored set s, text_begins set s)
+alone_joined : (assignment : Setting) → IsSet assignment → joined (assignment_text assignment ∷ [] ∷ []) ≡ record { leading = []; logical = assignment_text assignment ∷ [] }
+alone_joined assignment s = rw (text_whole assignment s, text_is_not_ignored assignment s, text_begins assignment s)
 
-behind_ended : (Y X : List ℕ) (set : Setting) → IsEnded Y X → IsSet set
-    → joined (parts (Y ++ set_line set)) ≡ then_texts (joined (parts X)) (record { leading = []; logical = set_text set ∷ [] })
-behind_ended Y X set e s =
-    let cut : lines (set_line set) ≡ set_text set ∷ [] = lines_at (set_text set) [] (text_feed set s) ∙ ap (λ L. set_text set ∷ L) lines-nil in
-    let none : rest (set_line set) ≡ [] = rest_at (set_text set) [] (text_feed set s) ∙ rest-nil in
-    let alone = alone_joined set s in
+behind_ended : (Y X : List ℕ) (assignment : Setting) → IsEnded Y X → IsSet assignment
+    → joined (parts (Y ++ assignment_line assignment)) ≡ then_texts (joined (parts X)) (record { leading = []; logical = assignment_text assignment ∷ [] })
+behind_ended Y X assignment e s =
+    let cut : lines (assignment_line assignment) ≡ assignment_text assignment ∷ [] = lines_at (assignment_text assignment) [] (text_feed assignment s) ∙ ap (λ L. assignment_text assignment ∷ L) lines-nil in
+    let none : rest (assignment_line assignment) ≡ [] = rest_at (assignment_text assignment) [] (text_feed assignment s) ∙ rest-nil in
+    let alone = alone_joined assignment s in
     rw (
-      lines-append Y (set_line set),
-      rest-append Y (set_line set),
+      lines-append Y (assignment_line assignment),
+      rest-append Y (assignment_line assignment),
       cut,
       none,
       e.none,
-      append_assoc (lines Y) (set_text set ∷ []) ([] ∷ []),
-      joined_append (lines Y) (set_text set ∷ [] ∷ []) (ap (λ (T : Texts). T.leading) alone),
+      append_assoc (lines Y) (assignment_text assignment ∷ []) ([] ∷ []),
+      joined_append (lines Y) (assignment_text assignment ∷ [] ∷ []) (ap (λ (T : Texts). T.leading) alone),
       alone,
       e.same,
     )
 
-pub lines_appended : (sets : List Setting) (X : List ℕ) → AllSets sets
-    → joined (parts (fold with_line X sets)) ≡ then_texts (joined (parts X)) (record { leading = []; logical = map set_text sets })
+pub lines_appended : (assignments : List Setting) (X : List ℕ) → AllAssignments assignments
+    → joined (parts (fold with_line X assignments)) ≡ then_texts (joined (parts X)) (record { leading = []; logical = map assignment_text assignments })
 lines_appended [] X all = rw (append-nil (joined (parts X)).logical)
-lines_appended (set ∷ sets) X all =
-    lines_appended sets (with_line X set) all.1
-    ∙ rw (behind_ended (X ++ feed_behind X) X set (ended X) all.0, append_assoc (joined (parts X)).logical (set_text set ∷ []) (map set_text sets))
+lines_appended (assignment ∷ assignments) X all =
+    lines_appended assignments (with_line X assignment) all.1
+    ∙ rw (behind_ended (X ++ feed_behind X) X assignment (ended X) all.0, append_assoc (joined (parts X)).logical (assignment_text assignment ∷ []) (map assignment_text assignments))

@@ -22,9 +22,9 @@ pub conf_fault : (file : List ℕ) (fault : ConfFault) (settings : Result (List 
 conf_fault file fault (Ok settings) is = cc
 conf_fault file fault (Err refusal) is = cc
 
-pub edit_fault : (sets : List Setting) (text : List ℕ) (fault : ConfFault) (conf : Result Conf Refused) → Err fault ≡ as_fault conf → Err fault ≡ as_fault (edited_in sets text conf)
-edit_fault sets text fault (Ok conf) is = cc
-edit_fault sets text fault (Err refusal) is = cc
+pub edit_fault : (assignments : List Setting) (text : List ℕ) (fault : ConfFault) (conf : Result Conf Refused) → Err fault ≡ as_fault conf → Err fault ≡ as_fault (edited_in assignments text conf)
+edit_fault assignments text fault (Ok conf) is = cc
+edit_fault assignments text fault (Err refusal) is = cc
 
 -- a line that continues nothing is refused
 pub continued : (file text : List ℕ) (line : ℕ) → Err (Continuation line) ≡ logical_lines_of text → conf_of file text ≡ Err (refused file line C1 [])

@@ -1,4 +1,4 @@
--- The last settings of names, and the sets that take their places.
+-- The last settings of names, and the assignments that take their places.
 use Rattle.std.proofs.Common.{◌≡◌, ℕ, ◌+◌, ◌≤◌, ◌⊎◌, inl, inr, Bool, true, false, cond, List, [], ◌∷◌, ◌++◌, Some, None, Option, reverse, refl, sym, ap, ◌∙◌, arith, eqb}
 use Rattle.std.specs.Prelude.{map, filter, not}
 use Rattle.std.specs.List.{find, list_any}
@@ -8,12 +8,12 @@ use Rattle.std.proofs.lemmas.Bool.{eqb-true, eq-eqb, ne_eqb}
 use Rattle.std.proofs.lemmas.List.{reverse-append}
 use Rattle.std.proofs.lemmas.List.Folds.{find-append}
 use Rattle.std.proofs.lemmas.Slice.Eq.{bytes_eq-Decides}
-use Rattle.pf_maincf.specs.Edit.{differ, line_of, placed, set_at}
+use Rattle.pf_maincf.specs.Edit.{differ, line_of, placed, assignment_at}
 use Rattle.pf_maincf.specs.Settings.{last_setting}
 use Rattle.pf_maincf.specs.declared.setting.Setting.{Setting}
 use Rattle.pf_maincf.proofs.Ends.{either_option, either_way, or_left, or_right}
 use Rattle.pf_maincf.proofs.Entries.{plain}
-use Rattle.pf_maincf.proofs.SetLines.{and_left, and_right, not_true}
+use Rattle.pf_maincf.proofs.AssignmentLines.{and_left, and_right, not_true}
 
 abbrev pub is_named : List ℕ → Setting → Bool
 is_named name s = bytes_eq s.name name
@@ -113,14 +113,14 @@ last_changed f (s ∷ settings) name h =
 -- a setting after an edit, without its line
 abbrev pub put_by : Option Setting → Setting → Setting
 put_by None s = plain s
-put_by (Some set) s = plain set
+put_by (Some assignment) s = plain assignment
 
 abbrev pub put : List Setting → Setting → Setting
-put sets s = put_by (set_at sets s.line) s
+put assignments s = put_by (assignment_at assignments s.line) s
 
--- the sets that have no line
+-- the assignments that have no line
 abbrev pub missing : List Setting → List Setting
-missing sets = filter (λ set. eqb set.line 0) sets
+missing assignments = filter (λ assignment. eqb assignment.line 0) assignments
 
 -- the last setting at a line has the name of that line
 name_at : (settings : List Setting) (s : Setting) (name : List ℕ) (o : Option Setting) → Rises 1 (lines_of settings) → IsOne s settings
@@ -130,21 +130,21 @@ name_at settings s name (Some t) h is last e =
     let p = last_is_one settings name t last in
     sym (ap (λ (s : Setting). s.name) (one_at_a_line 1 settings t s h p.0 is e)) ∙ p.1
 
-set_found : (settings sets : List Setting) (line : ℕ) (p : Setting) → set_at (map (placed settings) sets) line ≡ Some p
+assignment_found : (settings assignments : List Setting) (line : ℕ) (p : Setting) → assignment_at (map (placed settings) assignments) line ≡ Some p
     → line_of (last_setting settings p.name) ≡ line
-set_found settings [] line p h = cc
-set_found settings (q ∷ sets) line p h =
+assignment_found settings [] line p h = cc
+assignment_found settings (q ∷ assignments) line p h =
     either_way (eqb (line_of (last_setting settings q.name)) line)
     (λ k. let here = rw k at h in let e : placed settings q ≡ p = cc in
     ap (λ (s : Setting). line_of (last_setting settings s.name)) (sym e) ∙ eqb-true (line_of (last_setting settings q.name)) line k)
-    (λ k. set_found settings sets line p (rw k at h))
+    (λ k. assignment_found settings assignments line p (rw k at h))
 
-pub put_keeps : (settings sets : List Setting) → Rises 1 (lines_of settings) → KeepsNames (put (map (placed settings) sets)) settings
-put_keeps settings sets h s is =
-    either_option (set_at (map (placed settings) sets) s.line) (λ none. rw none) (λ p at. rw at
-    (sym (name_at settings s p.name (last_setting settings p.name) h is refl (set_found settings sets s.line p at))))
+pub put_keeps : (settings assignments : List Setting) → Rises 1 (lines_of settings) → KeepsNames (put (map (placed settings) assignments)) settings
+put_keeps settings assignments h s is =
+    either_option (assignment_at (map (placed settings) assignments) s.line) (λ none. rw none) (λ p at. rw at
+    (sym (name_at settings s p.name (last_setting settings p.name) h is refl (assignment_found settings assignments s.line p at))))
 
--- of the last setting of a name, the set of its line is the set of this name
+-- of the last setting of a name, the assignment of its line is that of this name
 same_test : (settings : List Setting) (s : Setting) (name : List ℕ) (q : Setting) → Rises 1 (lines_of settings) → last_setting settings name ≡ Some s
     → eqb (line_of (last_setting settings q.name)) s.line ≡ is_named name q
 same_test settings s name q h last =
@@ -156,62 +156,62 @@ same_test settings s name q h last =
     let no : is_named name q ≡ true = names_alike name q (sym e ∙ p.1) in cc)
     (λ t. t ∙ sym k))
 
-set_of_name : (settings : List Setting) (s : Setting) (name : List ℕ) (sets : List Setting) → Rises 1 (lines_of settings)
-    → last_setting settings name ≡ Some s → set_at (map (placed settings) sets) s.line ≡ option_map (placed settings) (find (is_named name) sets)
-set_of_name settings s name [] h last = refl
-set_of_name settings s name (q ∷ sets) h last =
-    let more = set_of_name settings s name sets h last in
+assignment_of_name : (settings : List Setting) (s : Setting) (name : List ℕ) (assignments : List Setting) → Rises 1 (lines_of settings)
+    → last_setting settings name ≡ Some s → assignment_at (map (placed settings) assignments) s.line ≡ option_map (placed settings) (find (is_named name) assignments)
+assignment_of_name settings s name [] h last = refl
+assignment_of_name settings s name (q ∷ assignments) h last =
+    let more = assignment_of_name settings s name assignments h last in
     let test = same_test settings s name q h last in
     either_way (is_named name q) (λ k. rw (test ∙ k, k)) (λ k. rw (test ∙ k, k) more)
 
--- the sets without a line
-absent : (settings : List Setting) (name : List ℕ) (sets : List Setting) → list_any (is_named name) sets ≡ false
-    → last_setting (map plain (missing (map (placed settings) sets))) name ≡ None
+-- the assignments without a line
+absent : (settings : List Setting) (name : List ℕ) (assignments : List Setting) → list_any (is_named name) assignments ≡ false
+    → last_setting (map plain (missing (map (placed settings) assignments))) name ≡ None
 absent settings name [] h = refl
-absent settings name (q ∷ sets) h =
-    let more = absent settings name sets (or_right (is_named name q) (list_any (is_named name) sets) h) in
+absent settings name (q ∷ assignments) h =
+    let more = absent settings name assignments (or_right (is_named name q) (list_any (is_named name) assignments) h) in
     either_way (eqb (line_of (last_setting settings q.name)) 0)
     (λ k. rw (
       k,
-      last_more (plain (placed settings q)) (map plain (missing (map (placed settings) sets))) name,
+      last_more (plain (placed settings q)) (map plain (missing (map (placed settings) assignments))) name,
       more,
-      or_left (is_named name q) (list_any (is_named name) sets) h,
+      or_left (is_named name q) (list_any (is_named name) assignments) h,
     ))
     (λ k. rw k more)
 
-others_absent : (q : Setting) (name : List ℕ) (sets : List Setting) → q.name ≡ name → list_any (bytes_eq q.name) (map (λ set. set.name) sets) ≡ false
-    → list_any (is_named name) sets ≡ false
+others_absent : (q : Setting) (name : List ℕ) (assignments : List Setting) → q.name ≡ name → list_any (bytes_eq q.name) (map (λ assignment. assignment.name) assignments) ≡ false
+    → list_any (is_named name) assignments ≡ false
 others_absent q name [] e h = refl
-others_absent q name (r ∷ sets) e h =
-    let more = others_absent q name sets e (or_right (bytes_eq q.name r.name) (list_any (bytes_eq q.name) (map (λ (set : Setting). set.name) sets)) h) in
-    let first = or_left (bytes_eq q.name r.name) (list_any (bytes_eq q.name) (map (λ (set : Setting). set.name) sets)) h in
+others_absent q name (r ∷ assignments) e h =
+    let more = others_absent q name assignments e (or_right (bytes_eq q.name r.name) (list_any (bytes_eq q.name) (map (λ (assignment : Setting). assignment.name) assignments)) h) in
+    let first = or_left (bytes_eq q.name r.name) (list_any (bytes_eq q.name) (map (λ (assignment : Setting). assignment.name) assignments)) h in
     either_way (is_named name r)
     (λ k. let no : bytes_eq q.name r.name ≡ true = (bytes_eq-Decides q.name r.name).1 (e ∙ sym (named name r k)) in cc)
     (λ k. rw k more)
 
-missing_set : (settings : List Setting) (name : List ℕ) (sets : List Setting) → differ (map (λ set. set.name) sets) ≡ true
+missing_assignment : (settings : List Setting) (name : List ℕ) (assignments : List Setting) → differ (map (λ assignment. assignment.name) assignments) ≡ true
     → last_setting settings name ≡ None
-    → option_map (λ s. s.value) (last_setting (map plain (missing (map (placed settings) sets))) name) ≡ option_map (λ s. s.value) (find (is_named name) sets)
-missing_set settings name [] d none = refl
-missing_set settings name (q ∷ sets) d none =
-    let others = not_true _ (and_left (not (list_any (bytes_eq q.name) (map (λ (set : Setting). set.name) sets))) (differ (map (λ (set : Setting). set.name) sets)) d) in
-    let more = missing_set settings name sets
-    (and_right (not (list_any (bytes_eq q.name) (map (λ (set : Setting). set.name) sets))) (differ (map (λ (set : Setting). set.name) sets)) d) none in
-    let next = last_more (plain (placed settings q)) (map plain (missing (map (placed settings) sets))) name in
+    → option_map (λ s. s.value) (last_setting (map plain (missing (map (placed settings) assignments))) name) ≡ option_map (λ s. s.value) (find (is_named name) assignments)
+missing_assignment settings name [] d none = refl
+missing_assignment settings name (q ∷ assignments) d none =
+    let others = not_true _ (and_left (not (list_any (bytes_eq q.name) (map (λ (assignment : Setting). assignment.name) assignments))) (differ (map (λ (assignment : Setting). assignment.name) assignments)) d) in
+    let more = missing_assignment settings name assignments
+    (and_right (not (list_any (bytes_eq q.name) (map (λ (assignment : Setting). assignment.name) assignments))) (differ (map (λ (assignment : Setting). assignment.name) assignments)) d) none in
+    let next = last_more (plain (placed settings q)) (map plain (missing (map (placed settings) assignments))) name in
     either_way (is_named name q)
-    (λ k. let away = absent settings name sets (others_absent q name sets (named name q k) others) in
+    (λ k. let away = absent settings name assignments (others_absent q name assignments (named name q k) others) in
     let zero : eqb (line_of (last_setting settings q.name)) 0 ≡ true = rw (named name q k, none) in
     rw (zero, next, away, k))
     (λ k. either_way (eqb (line_of (last_setting settings q.name)) 0)
-    (λ z. rw (z, next, k, or_none (last_setting (map plain (missing (map (placed settings) sets))) name)) more)
+    (λ z. rw (z, next, k, or_none (last_setting (map plain (missing (map (placed settings) assignments))) name)) more)
     (λ z. rw (z, k) more))
 
-present_set : (settings : List Setting) (name : List ℕ) (s : Setting) (sets : List Setting) → Rises 1 (lines_of settings)
-    → last_setting settings name ≡ Some s → last_setting (map plain (missing (map (placed settings) sets))) name ≡ None
-present_set settings name s [] h last = refl
-present_set settings name s (q ∷ sets) h last =
-    let more = present_set settings name s sets h last in
-    let next = last_more (plain (placed settings q)) (map plain (missing (map (placed settings) sets))) name in
+present_assignment : (settings : List Setting) (name : List ℕ) (s : Setting) (assignments : List Setting) → Rises 1 (lines_of settings)
+    → last_setting settings name ≡ Some s → last_setting (map plain (missing (map (placed settings) assignments))) name ≡ None
+present_assignment settings name s [] h last = refl
+present_assignment settings name s (q ∷ assignments) h last =
+    let more = present_assignment settings name s assignments h last in
+    let next = last_more (plain (placed settings q)) (map plain (missing (map (placed settings) assignments))) name in
     let p = last_is_one settings name s last in
     let from = not_before 1 settings s h p.0 in
     either_way (is_named name q)
@@ -224,31 +224,31 @@ or_none_value (Some v) = refl
 
 -- the settings of a text that was edited, without their lines
 abbrev pub settings_after : List Setting → List Setting → List Setting
-settings_after sets settings = map (put (map (placed settings) sets)) settings ++ map plain (missing (map (placed settings) sets))
+settings_after assignments settings = map (put (map (placed settings) assignments)) settings ++ map plain (missing (map (placed settings) assignments))
 
 put_value : (o : Option Setting) (settings : List Setting) (s : Setting)
     → Some (put_by (option_map (placed settings) o) s).value ≡ option_or (option_map (λ s. s.value) o) (Some s.value)
 put_value None settings s = refl
-put_value (Some set) settings s = refl
+put_value (Some assignment) settings s = refl
 
-pub value_of_each : (sets settings : List Setting) (name : List ℕ) → differ (map (λ set. set.name) sets) ≡ true → Rises 1 (lines_of settings)
-    → option_map (λ s. s.value) (last_setting (settings_after sets settings) name)
-    ≡ option_or (option_map (λ s. s.value) (find (is_named name) sets)) (option_map (λ s. s.value) (last_setting settings name))
-value_of_each sets settings name d h =
-    let both = last_append (map (put (map (placed settings) sets)) settings) (map plain (missing (map (placed settings) sets))) name in
-    let kept = last_changed (put (map (placed settings) sets)) settings name (put_keeps settings sets h) in
+pub value_of_each : (assignments settings : List Setting) (name : List ℕ) → differ (map (λ assignment. assignment.name) assignments) ≡ true → Rises 1 (lines_of settings)
+    → option_map (λ s. s.value) (last_setting (settings_after assignments settings) name)
+    ≡ option_or (option_map (λ s. s.value) (find (is_named name) assignments)) (option_map (λ s. s.value) (last_setting settings name))
+value_of_each assignments settings name d h =
+    let both = last_append (map (put (map (placed settings) assignments)) settings) (map plain (missing (map (placed settings) assignments))) name in
+    let kept = last_changed (put (map (placed settings) assignments)) settings name (put_keeps settings assignments h) in
     either_option (last_setting settings name)
     (λ none. rw (
       both,
       kept,
       none,
-      or_none (last_setting (map plain (missing (map (placed settings) sets))) name),
-      or_none_value (option_map (λ (s : Setting). s.value) (find (is_named name) sets)),
-    ) (missing_set settings name sets d none))
+      or_none (last_setting (map plain (missing (map (placed settings) assignments))) name),
+      or_none_value (option_map (λ (s : Setting). s.value) (find (is_named name) assignments)),
+    ) (missing_assignment settings name assignments d none))
     (λ s last. rw (
       both,
       kept,
       last,
-      present_set settings name s sets h last,
-      set_of_name settings s name sets h last,
-    ) (put_value (find (is_named name) sets) settings s))
+      present_assignment settings name s assignments h last,
+      assignment_of_name settings s name assignments h last,
+    ) (put_value (find (is_named name) assignments) settings s))

@@ -8,7 +8,7 @@ use Rattle.pf_base.specs.declared.text.logical.Logical.{Logical}
 use Rattle.pf_base.specs.declared.pair.Pair.{Pair}
 use Rattle.pf_base.specs.declared.outside.reading.ReadFault.TheVariants.{TooLarge}
 use Rattle.pf_base.specs.declared.refused.Cause.TheVariants.{C1, C2, C3, C10, C15}
-use Rattle.pf_maincf.specs.Edit.{AreSets, Line, blocks_from, differ, edited, edited_by, is_ended, is_writable, lines_in, placed, set_line}
+use Rattle.pf_maincf.specs.Edit.{AreAssignments, Line, blocks_from, differ, edited, edited_by, is_ended, is_writable, lines_in, placed, assignment_line}
 use Rattle.pf_maincf.specs.File.{bytes_in, conf_name, failed_line, text_read}
 use Rattle.pf_base.specs.Refusal.{refused}
 use Rattle.pf_maincf.specs.Settings.{conf_of, conf_with, is_name, is_name_byte, last_setting, or_refused, setting_of, settings_in, settings_of}
@@ -178,11 +178,11 @@ set_to name value = record { line = 7; name = name; value = value }
 sets_of_one_line : list_all is_writable (set_to (codes "a") (codes "1, 2") ∷ set_to (codes "a#") [] ∷ set_to (codes "a") (codes "b = #c") ∷ []) ≡ true
 sets_of_one_line = refl
 
-no_sets_of_one_line : map is_writable
+no_assignments_of_one_line : map is_writable
     (set_to [] (codes "1") ∷ set_to (codes "a b") (codes "1") ∷ set_to (codes "a=") (codes "1") ∷ set_to (codes "#a") (codes "1") ∷ set_to (codes "a") (codes " 1")
     ∷ set_to (codes "a") (codes "1\t") ∷ set_to (codes "a") (codes "1\n2") ∷ set_to (codes "a") (codes "1\r") ∷ [])
     ≡ false ∷ false ∷ false ∷ false ∷ false ∷ false ∷ false ∷ false ∷ []
-no_sets_of_one_line = refl
+no_assignments_of_one_line = refl
 
 all_differ : differ (codes "a" ∷ codes "A" ∷ codes "b" ∷ []) ≡ true
 all_differ = refl
@@ -190,16 +190,16 @@ all_differ = refl
 two_alike : differ (codes "a" ∷ codes "b" ∷ codes "a" ∷ []) ≡ false
 two_alike = refl
 
-two_sets : AreSets (set_to (codes "a") (codes "1") ∷ set_to (codes "b") [] ∷ [])
-two_sets = record { each = refl; once = refl }
+two_assignments : AreAssignments (set_to (codes "a") (codes "1") ∷ set_to (codes "b") [] ∷ [])
+two_assignments = record { each = refl; once = refl }
 
-line_of_a_set : set_line (set_to (codes "a") (codes "1 2")) ≡ codes "a = 1 2\n"
-line_of_a_set = refl
+line_of_an_assignment : assignment_line (set_to (codes "a") (codes "1 2")) ≡ codes "a = 1 2\n"
+line_of_an_assignment = refl
 
-line_of_an_empty_value : set_line (set_to (codes "a") []) ≡ codes "a = \n"
+line_of_an_empty_value : assignment_line (set_to (codes "a") []) ≡ codes "a = \n"
 line_of_an_empty_value = refl
 
--- where a set is
+-- where an assignment is
 at_the_last_of_its_name : placed (first ∷ second ∷ record { line = 3; name = codes "a"; value = codes "3" } ∷ []) (set_to (codes "a") (codes "4"))
     ≡ record { line = 3; name = codes "a"; value = codes "4" }
 at_the_last_of_its_name = refl
@@ -220,10 +220,10 @@ lines_in_blocks : blocks_from 1 (lines_in (codes "# top\na = 1\n\t2\r\n # mid\nb
 unfolding lines rest
 lines_in_blocks = refl
 
-set_in_a_block : edited_by (record { line = 2; lines = ended_by_a_feed (codes "a = 1") ∷ ended_by_a_feed (codes "# c") ∷ ended_by_a_feed (codes " 2") ∷ [] })
+assignment_in_a_block : edited_by (record { line = 2; lines = ended_by_a_feed (codes "a = 1") ∷ ended_by_a_feed (codes "# c") ∷ ended_by_a_feed (codes " 2") ∷ [] })
     (Some (record { line = 2; name = codes "a"; value = codes "3" }))
     ≡ codes "a = 3\n# c\n"
-set_in_a_block = refl
+assignment_in_a_block = refl
 
 ended_texts : map is_ended ([] ∷ codes "a\n" ∷ codes "\n\n" ∷ codes "a" ∷ codes "a\nb" ∷ codes "a\n\r" ∷ [])
     ≡ false ∷ true ∷ true ∷ false ∷ false ∷ false ∷ []

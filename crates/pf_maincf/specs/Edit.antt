@@ -23,10 +23,10 @@ ends_in_return value = slice_index value (length value - 1) == ascii.carriage_re
 -- what one line can say: a name that holds no equals sign and begins no comment, and a value without space at its ends, in one line
 -- that ends in no carriage return
 abbrev pub is_writable : Setting → Bool
-is_writable set =
-    is_name set.name && not (list_any (λ b. b == ascii.equals_sign) set.name) && not (begins_comment set.name)
-    && bytes_eq (trimmed set.value) set.value && not (list_any (λ b. b == ascii.line_feed) set.value)
-    && not (ends_in_return set.value)
+is_writable assignment =
+    is_name assignment.name && not (list_any (λ b. b == ascii.equals_sign) assignment.name) && not (begins_comment assignment.name)
+    && bytes_eq (trimmed assignment.value) assignment.value && not (list_any (λ b. b == ascii.line_feed) assignment.value)
+    && not (ends_in_return assignment.value)
 
 -- no name comes twice
 abbrev pub differ : List (List ℕ) → Bool
@@ -36,28 +36,28 @@ differ (name ∷ names) = not (list_any (bytes_eq name) names) && differ names
 -- no further setting has the name of the first one
 abbrev pub first_differs : List Setting → Bool
 first_differs [] = true
-first_differs (set ∷ sets) = not (list_any (λ other. bytes_eq set.name other.name) sets)
+first_differs (assignment ∷ assignments) = not (list_any (λ other. bytes_eq assignment.name other.name) assignments)
 
 -- settings that an edit can write, each name once
-abbrev pub are_sets : List Setting → Bool
-are_sets sets = list_all is_writable sets && differ (map (λ set. set.name) sets)
+abbrev pub are_assignments : List Setting → Bool
+are_assignments assignments = list_all is_writable assignments && differ (map (λ assignment. assignment.name) assignments)
 
-pub record AreSets (sets : List Setting) : Type 0 where
-  pub each : list_all is_writable sets ≡ true
-  pub once : differ (map (λ set. set.name) sets) ≡ true
+pub record AreAssignments (assignments : List Setting) : Type 0 where
+  pub each : list_all is_writable assignments ≡ true
+  pub once : differ (map (λ assignment. assignment.name) assignments) ≡ true
 
 -- the line that sets a name, with its line feed; the blank after the equals sign is before an empty value too
-abbrev pub set_line : Setting → List ℕ
-set_line set = set.name ++ codes " = " ++ set.value ++ ascii.line_feed ∷ []
+abbrev pub assignment_line : Setting → List ℕ
+assignment_line assignment = assignment.name ++ codes " = " ++ assignment.value ++ ascii.line_feed ∷ []
 
 -- the number of the line at which a setting begins, 0 where there is none
 abbrev pub line_of : Option Setting → ℕ
 line_of None = 0
 line_of (Some setting) = setting.line
 
--- a set with the line at which the last setting of its name begins
+-- an assignment with the line at which the last setting of its name begins
 abbrev pub placed : List Setting → Setting → Setting
-placed settings set = record { line = line_of (last_setting settings set.name); name = set.name; value = set.value }
+placed settings assignment = record { line = line_of (last_setting settings assignment.name); name = assignment.name; value = assignment.value }
 
 -- a physical line and its line feed, if it has one
 pub record Line : Type 0 where
@@ -102,24 +102,24 @@ abbrev pub blocks_from : ℕ → List Line → Blocks
 blocks_from number [] = record { prefix = []; blocks = [] }
 blocks_from number (line ∷ lines) = before_blocks number line (blocks_from (number + 1) lines)
 
--- the set of a line
-abbrev pub set_at : List Setting → ℕ → Option Setting
-set_at sets line = find (λ set. set.line == line) sets
+-- the assignment of a line
+abbrev pub assignment_at : List Setting → ℕ → Option Setting
+assignment_at assignments line = find (λ assignment. assignment.line == line) assignments
 
--- a logical line stays as it is, or gives way to the line of the set there; ignored lines come after that
+-- a logical line stays as it is, or gives way to the line of the assignment there; ignored lines come after that
 abbrev pub edited_by : Block → Option Setting → List ℕ
 edited_by block None = flat_map standing block.lines
-edited_by block (Some set) = set_line set ++ flat_map standing (filter (λ line. counts_for_nothing line.text) block.lines)
+edited_by block (Some assignment) = assignment_line assignment ++ flat_map standing (filter (λ line. counts_for_nothing line.text) block.lines)
 
 abbrev pub edited_block : List Setting → Block → List ℕ
-edited_block sets block = edited_by block (set_at sets block.line)
+edited_block assignments block = edited_by block (assignment_at assignments block.line)
 
 -- all lines, edited
 abbrev pub edited_blocks : List Setting → Blocks → List ℕ
-edited_blocks sets b = flat_map standing b.prefix ++ flat_map (edited_block sets) b.blocks
+edited_blocks assignments b = flat_map standing b.prefix ++ flat_map (edited_block assignments) b.blocks
 
 abbrev pub edited_lines : List Setting → List ℕ → List ℕ
-edited_lines sets text = edited_blocks sets (blocks_from 1 (lines_in text))
+edited_lines assignments text = edited_blocks assignments (blocks_from 1 (lines_in text))
 
 -- a text ends in a line feed: nothing is after its last one
 abbrev pub is_ended : List ℕ → Bool
@@ -130,35 +130,35 @@ is_ended (b ∷ bytes) = length (rest (b ∷ bytes)) == 0
 abbrev pub feed_behind : List ℕ → List ℕ
 feed_behind text = if is_ended text then [] else ascii.line_feed ∷ []
 
--- a text with the line of a set as its last line
+-- a text with the line of an assignment as its last line
 abbrev pub with_line : List ℕ → Setting → List ℕ
-with_line text set = text ++ feed_behind text ++ set_line set
+with_line text assignment = text ++ feed_behind text ++ assignment_line assignment
 
--- a text with sets at their lines, and after it those that have none
+-- a text with assignments at their lines, and after it those that have none
 abbrev pub edited_text : List Setting → List ℕ → List ℕ
-edited_text sets text = fold with_line (edited_lines sets text) (filter (λ set. set.line == 0) sets)
+edited_text assignments text = fold with_line (edited_lines assignments text) (filter (λ assignment. assignment.line == 0) assignments)
 
--- the sets put into the text of a main.cf that was read
+-- the assignments put into the text of a main.cf that was read
 abbrev pub edited_in : List Setting → List ℕ → Result Conf Refused → Result (List ℕ) Refused
-edited_in sets text answer = do
+edited_in assignments text answer = do
   conf ← answer
-  Ok (edited_text (map (placed conf.settings) sets) text)
+  Ok (edited_text (map (placed conf.settings) assignments) text)
 
 -- the text of a main.cf of this name after an edit
 unfoldable pub edited : List ℕ → List ℕ → List Setting → Result (List ℕ) Refused
-edited file text sets = edited_in sets text (conf_of file text)
+edited file text assignments = edited_in assignments text (conf_of file text)
 
 -- the value of a name, and the one that it is set to
 abbrev pub value_of : List Setting → List ℕ → Option (List ℕ)
 value_of settings name = option_map (λ s. s.value) (last_setting settings name)
 
 abbrev pub set_value : List Setting → List ℕ → Option (List ℕ)
-set_value sets name = option_map (λ s. s.value) (find (λ s. bytes_eq s.name name) sets)
+set_value assignments name = option_map (λ s. s.value) (find (λ s. bytes_eq s.name name) assignments)
 
 -- the text after an edit is read, and each name has the value that it is set to, or else the one that it had
-pub record IsEditOf (file text after : List ℕ) (sets : List Setting) : Type 0 where
+pub record IsEditOf (file text after : List ℕ) (assignments : List Setting) : Type 0 where
   pub old : Conf
   pub new : Conf
   pub before : conf_of file text ≡ Ok old
   pub behind : conf_of file after ≡ Ok new
-  pub values : (name : List ℕ) → value_of new.settings name ≡ option_or (set_value sets name) (value_of old.settings name)
+  pub values : (name : List ℕ) → value_of new.settings name ≡ option_or (set_value assignments name) (value_of old.settings name)

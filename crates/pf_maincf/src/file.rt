@@ -1,8 +1,9 @@
 //! main.cf as a file.
-ghost use Rattle.std.specs.Prelude.{◌≡◌, ◌≢◌, List as Seq, Some, Err, IfOk};
+ghost use Rattle.std.specs.Prelude.{◌≡◌, ◌≢◌, ◌⊎◌, List as Seq, Some, Err, IfOk};
 ghost use Rattle.std.specs.Str.{IsUtf8};
 ghost use Rattle.pf_base.specs.Outside.Known.{failed_tree};
 ghost use Rattle.pf_base.specs.declared.pair.Pair.{Pair};
+ghost use Rattle.pf_base.specs.declared.refused.Refused.{Refused as Refusal};
 ghost use Rattle.pf_maincf.specs.Clauses.Faults.{Answers};
 ghost use Rattle.pf_maincf.specs.File as spec;
 ghost use Rattle.pf_maincf.specs.File.{Kept, bytes_in};
@@ -78,6 +79,8 @@ pub fn conf_text<F: Files>(alloc: Global, file: &[u8], files: &mut F) -> Result<
     ensures known { (all : Seq Pair) → (F.known files.old).content ≡ Some all
         → Answers (spec.conf_text file.now (bytes_in all file.now)) result }
     ensures text { IfOk result (λ text. IsUtf8 file.now) }
+    ensures refused { (refusal : Refusal) → result ≡ Err (FileFault.Refused refusal)
+        → (refusal ≡ spec.file_refused file.now Cause.C10) ⊎ (refusal ≡ spec.file_refused file.now Cause.C15) }
     ensures failed { result ≡ Err FileFault.Failed → Kept (failed_tree (F.known files.old)) (F.known files.new) }
     ensures kept { result ≢ Err FileFault.Failed → Kept (F.known files.old) (F.known files.new) }
 {

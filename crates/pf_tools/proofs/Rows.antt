@@ -28,7 +28,7 @@ use Rattle.pf_tools.specs.Run.{statuses_by}
 use Rattle.pf_tools.specs.Said.{edited_by, file_said, printed, printed_of}
 use Rattle.pf_tools.specs.Values.{line_in, value_shown}
 use Rattle.pf_tools.specs.declared.said.Said.TheVariants.{Edited, Printed}
-use Rattle.pf_words.specs.Sets.{setting_of_word, settings_of_words}
+use Rattle.pf_words.specs.Assignments.{assignment_of_word, assignments_of_words}
 use Rattle.pf_words.specs.declared.postconf.ConfMode.TheVariants as mode
 use Rattle.pf_words.specs.declared.postconf.ConfWords.{ConfWords}
 use Rattle.pf_words.specs.declared.postconf.Shape.TheVariants as shape
@@ -131,7 +131,7 @@ file = codes "main.cf"
 
 set_names_of_a_text : file_said file (record words { mode = mode.Set; over = Some (codes "b=2") }) (Some (codes "b = 1\na =\n"))
     ≡ Ok (Printed (codes "a =\nb = 2\n") [])
-unfolding printed conf_of setting_of_word accepted reading_of words_of catalogue name_value text_value parts first_part form_of net_of written_net host_of address_of
+unfolding printed conf_of assignment_of_word accepted reading_of words_of catalogue name_value text_value parts first_part form_of net_of written_net host_of address_of
     ipv4_bits ipv6_bits read_ipv4 read_ipv6 read_number read_octet read_segment read_segments
 set_names_of_a_text = refl
 
@@ -144,7 +144,7 @@ absent = refl
 
 edited_text : file_said file (record words { mode = mode.Edit; rest = codes "a=2" ∷ codes "c=" ∷ [] }) (Some (codes "a = 1\nb = 1"))
     ≡ Ok (Edited (codes "a = 2\nb = 1\nc = \n"))
-unfolding edited_by edited conf_of lines rest settings_of_words setting_of_word
+unfolding edited_by edited conf_of lines rest assignments_of_words assignment_of_word
 edited_text = refl
 
 -- what a course writes, and its status

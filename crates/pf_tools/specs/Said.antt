@@ -13,7 +13,7 @@ use Rattle.pf_tools.specs.Printed.{lines_of, warnings_of}
 use Rattle.pf_tools.specs.declared.said.Said.{Said}
 use Rattle.pf_tools.specs.declared.said.Said.TheVariants.{Edited, Printed}
 use Rattle.pf_words.specs.Postconf.{is_edit}
-use Rattle.pf_words.specs.Sets.{setting_of_word, settings_of_words}
+use Rattle.pf_words.specs.Assignments.{assignment_of_word, assignments_of_words}
 use Rattle.pf_words.specs.declared.postconf.ConfWords.{ConfWords}
 
 -- it is an edited text
@@ -30,11 +30,11 @@ printed_of words s names = do
 -- the setting of the word of -o, if there is one
 abbrev pub over_of : Option (List ℕ) → List Setting
 over_of None = []
-over_of (Some word) = option_to_list (setting_of_word word)
+over_of (Some word) = option_to_list (assignment_of_word word)
 
 -- the settings of the words of an edit
 abbrev pub edits_of : List (List ℕ) → List Setting
-edits_of words = unwrap_or (settings_of_words words) []
+edits_of words = unwrap_or (assignments_of_words words) []
 
 -- what is printed of a main.cf of this name and text
 unfoldable pub printed : List ℕ → ConfWords → List ℕ → Result Said Refused

@@ -2,7 +2,7 @@
 ghost use Rattle.std.specs.Prelude.{◌≡◌, true, false, IfOk};
 ghost use Rattle.pf_base.specs.Clauses.Unless.{Unless};
 ghost use Rattle.pf_base.specs.Clauses.Faults.{as_fault};
-ghost use Rattle.pf_maincf.specs.Edit.{AreSets};
+ghost use Rattle.pf_maincf.specs.Edit.{AreAssignments};
 ghost use Rattle.pf_tools.specs.Asked.{asked_names};
 ghost use Rattle.pf_tools.specs.Said as spec;
 ghost use Rattle.pf_words.specs.Postconf.{are_edits, is_edit, is_over, sets_parameters};
@@ -12,7 +12,7 @@ use crate::lines::{lines_of, warnings_of};
 use pf_base::{Bytes, ConfFault, List, NoMemory};
 use pf_maincf::{MainCf, Setting};
 use pf_params::{Known, Settings};
-use pf_words::{ConfMode, ConfWords, setting_of_word, settings_of_words};
+use pf_words::{ConfMode, ConfWords, assignment_of_word, assignments_of_words};
 use std::alloc::Global;
 
 /// What is said of a main.cf: lines for the output and warnings for the log, or its text after an edit.
@@ -62,7 +62,7 @@ fn over_of(alloc: Global, over: &Option<Bytes>) -> Result<List<Setting>, NoMemor
 {
     let mut settings = List::new(alloc);
     if let Some(word) = over {
-        match setting_of_word(alloc, word.as_slice())? {
+        match assignment_of_word(alloc, word.as_slice())? {
             Some(setting) => settings.push(setting)?,
             None => unreachable!(),
         }
@@ -74,9 +74,9 @@ fn over_of(alloc: Global, over: &Option<Bytes>) -> Result<List<Setting>, NoMemor
 fn edits_of(alloc: Global, words: &[Bytes]) -> Result<List<Setting>, NoMemory>
     requires { are_edits words.now ≡ true }
     ensures is { IfOk result (λ settings. settings ≡ spec.edits_of words.now) }
-    ensures sets { IfOk result AreSets }
+    ensures sets { IfOk result AreAssignments }
 {
-    match settings_of_words(alloc, words)? {
+    match assignments_of_words(alloc, words)? {
         Some(settings) => Ok(settings),
         None => unreachable!(),
     }

@@ -197,10 +197,10 @@ unfolding conf_of settings_refusal parameter_refusal reading_named reading_of wo
 class_among_parameters = refl
 
 -- the relay list comes last, its words before what it lacks
-abbrev none_set : Conf
-none_set = record { file = codes "main.cf"; settings = [] }
+abbrev no_assignment : Conf
+no_assignment = record { file = codes "main.cf"; settings = [] }
 
-checks_of_the_relay_list : map (λ items. option_map refusal_line (relay_refusal none_set items))
+checks_of_the_relay_list : map (λ items. option_map refusal_line (relay_refusal no_assignment items))
     ((codes "reject_unauth_destination" ∷ []) ∷ (codes "permit_mynetworks" ∷ codes "a\u{7f}" ∷ codes "b" ∷ []) ∷ (codes "permit_mynetworks" ∷ []) ∷ [])
     ≡ None ∷ Some (codes "postgate: main.cf:0: C7 unknown restriction: a?\n") ∷ Some (codes "postgate: main.cf:0: C14 setting outside the profile: smtpd_relay_restrictions\n") ∷ []
 unfolding relay_of restriction_of refusal_line printed_line cause_text digits

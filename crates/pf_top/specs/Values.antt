@@ -7,7 +7,7 @@ use Rattle.pf_eval.specs.Nets.{Net}
 use Rattle.pf_eval.specs.declared.policy.PlainItem.{PlainItem}
 use Rattle.pf_eval.specs.declared.policy.PlainItem.TheVariants.{PermitMynetworks, RejectUnauthDestination}
 use Rattle.pf_top.specs.Nets.{net_of}
-use Rattle.pf_words.specs.Sets.{all_of}
+use Rattle.pf_words.specs.Assignments.{all_of}
 
 -- the items, where there is at least one
 abbrev pub one_or_more : {A : Type 0} → List A → Option (List A)

@@ -3,7 +3,7 @@ ghost use Rattle.std.specs.Prelude.{◌≡◌, IfOk};
 ghost use Rattle.std.specs.List.{list_any};
 ghost use Rattle.pf_top.specs.Nets as nets;
 ghost use Rattle.pf_top.specs.Values as values;
-ghost use Rattle.pf_words.specs.Sets.{all_of};
+ghost use Rattle.pf_words.specs.Assignments.{all_of};
 
 use crate::nets::net_of;
 use pf_base::{Bytes, List, NoMemory, is_host_name, same_in_any_case};

@@ -14,7 +14,7 @@ use Rattle.pf_words.specs.Found.{has_flag, rows_in, value_in}
 use Rattle.pf_base.specs.Text.Numbers.{decimal_within, is_decimal}
 use Rattle.pf_words.specs.Numbers.{budget_of}
 use Rattle.pf_words.specs.Postconf.{conf_in, conf_of}
-use Rattle.pf_words.specs.Sets.{setting_of_word, settings_of_words}
+use Rattle.pf_words.specs.Assignments.{assignment_of_word, assignments_of_words}
 use Rattle.pf_words.specs.Smtpd.{smtpd_in, smtpd_of}
 use Rattle.pf_words.specs.Words.{log_name, mail_name, words_of}
 use Rattle.pf_words.specs.declared.postconf.ConfMode.TheVariants as mode
@@ -96,29 +96,29 @@ no_budgets = refl
 abbrev set : List ℕ → List ℕ → Setting
 set name value = record { line = 0; name = name; value = value }
 
-first_equals_sign : map setting_of_word (codes "a=b" ∷ codes "a=" ∷ codes "a=b=c" ∷ codes "a=b c" ∷ [])
+first_equals_sign : map assignment_of_word (codes "a=b" ∷ codes "a=" ∷ codes "a=b=c" ∷ codes "a=b c" ∷ [])
     ≡ Some (set (codes "a") (codes "b")) ∷ Some (set (codes "a") []) ∷ Some (set (codes "a") (codes "b=c"))
     ∷ Some (set (codes "a") (codes "b c")) ∷ []
-unfolding setting_of_word
+unfolding assignment_of_word
 first_equals_sign = refl
 
-names_that_no_word_sets : map setting_of_word (codes "a" ∷ codes "=b" ∷ codes "#a=b" ∷ codes "a$=b" ∷ codes "a =b" ∷ [] ∷ [])
+names_that_no_word_sets : map assignment_of_word (codes "a" ∷ codes "=b" ∷ codes "#a=b" ∷ codes "a$=b" ∷ codes "a =b" ∷ [] ∷ [])
     ≡ None ∷ None ∷ None ∷ None ∷ None ∷ None ∷ []
-unfolding setting_of_word
+unfolding assignment_of_word
 names_that_no_word_sets = refl
 
-values_that_no_word_sets : map setting_of_word (codes "a= b" ∷ codes "a=b\t" ∷ codes "a=b\nc" ∷ codes "a=b\r" ∷ codes "a=\r" ∷ [])
+values_that_no_word_sets : map assignment_of_word (codes "a= b" ∷ codes "a=b\t" ∷ codes "a=b\nc" ∷ codes "a=b\r" ∷ codes "a=\r" ∷ [])
     ≡ None ∷ None ∷ None ∷ None ∷ None ∷ []
-unfolding setting_of_word
+unfolding assignment_of_word
 values_that_no_word_sets = refl
 
-carriage_return_inside : setting_of_word (codes "a=b\rc") ≡ Some (set (codes "a") (codes "b\rc"))
-unfolding setting_of_word
+carriage_return_inside : assignment_of_word (codes "a=b\rc") ≡ Some (set (codes "a") (codes "b\rc"))
+unfolding assignment_of_word
 carriage_return_inside = refl
 
-names_differ : map settings_of_words (words_in (codes "a=1 b=1") ∷ words_in (codes "a=1 b=1 a=2") ∷ words_in (codes "a=1 b") ∷ [] ∷ [])
+names_differ : map assignments_of_words (words_in (codes "a=1 b=1") ∷ words_in (codes "a=1 b=1 a=2") ∷ words_in (codes "a=1 b") ∷ [] ∷ [])
     ≡ Some (set (codes "a") (codes "1") ∷ set (codes "b") (codes "1") ∷ []) ∷ None ∷ None ∷ Some [] ∷ []
-unfolding settings_of_words setting_of_word
+unfolding assignments_of_words assignment_of_word
 names_differ = refl
 
 -- the kinds of clap's faults: a value twice, none, no such option
@@ -212,12 +212,12 @@ joined_flags = refl
 setting_over_the_others : map said (codes "postconf -o a=b=c" ∷ codes "postconf -oa=" ∷ codes "postconf -o=a=b -n" ∷ [])
     ≡ Some (Postconf (record all { over = Some (codes "a=b=c") })) ∷ Some (Postconf (record all { over = Some (codes "a=") }))
     ∷ Some (Postconf (record all { mode = mode.Set; over = Some (codes "a=b") })) ∷ []
-unfolding words_of conf_of conf_in rows_in given_to_clap clap_on_literals setting_of_word
+unfolding words_of conf_of conf_in rows_in given_to_clap clap_on_literals assignment_of_word
 setting_over_the_others = refl
 
 no_setting_over_the_others : map said (codes "postconf -o a" ∷ codes "postconf -o =b" ∷ codes "postconf -o a=b -o c=d" ∷ codes "postconf -o" ∷ [])
     ≡ None ∷ None ∷ None ∷ None ∷ []
-unfolding words_of conf_of conf_in rows_in given_to_clap clap_on_literals setting_of_word
+unfolding words_of conf_of conf_in rows_in given_to_clap clap_on_literals assignment_of_word
 no_setting_over_the_others = refl
 
 two_of_an_or : map said (codes "postconf -n -d" ∷ codes "postconf -hH" ∷ codes "postconf -nxd a" ∷ []) ≡ None ∷ None ∷ None ∷ []
@@ -232,17 +232,17 @@ flags_that_are_none = refl
 edits : map said (codes "postconf -e a=1 b=" ∷ codes "postconf -c etc a=1 -e" ∷ [])
     ≡ Some (Postconf (record edit { rest = codes "a=1" ∷ codes "b=" ∷ [] }))
     ∷ Some (Postconf (record edit { folder = Some (codes "etc"); rest = codes "a=1" ∷ [] })) ∷ []
-unfolding words_of conf_of conf_in rows_in given_to_clap clap_on_literals settings_of_words setting_of_word
+unfolding words_of conf_of conf_in rows_in given_to_clap clap_on_literals assignments_of_words assignment_of_word
 edits = refl
 
 no_edits : map said (codes "postconf -e" ∷ codes "postconf -e a" ∷ codes "postconf -e a=1 a=2" ∷ codes "postconf -e a=1 #b=2" ∷ [])
     ≡ None ∷ None ∷ None ∷ None ∷ []
-unfolding words_of conf_of conf_in rows_in given_to_clap clap_on_literals settings_of_words setting_of_word
+unfolding words_of conf_of conf_in rows_in given_to_clap clap_on_literals assignments_of_words assignment_of_word
 no_edits = refl
 
 edit_or_print : map said (codes "postconf -e -n a=1" ∷ codes "postconf -eh a=1" ∷ codes "postconf -e -x a=1" ∷ codes "postconf -e -o b=1 a=1" ∷ [])
     ≡ None ∷ None ∷ None ∷ None ∷ []
-unfolding words_of conf_of conf_in rows_in given_to_clap clap_on_literals settings_of_words setting_of_word
+unfolding words_of conf_of conf_in rows_in given_to_clap clap_on_literals assignments_of_words assignment_of_word
 edit_or_print = refl
 
 -- other commands

@@ -4,6 +4,6 @@ pub mod Commands
 pub mod Found
 pub mod Numbers
 pub mod Postconf
-pub mod Sets
+pub mod Assignments
 pub mod Smtpd
 pub mod Words

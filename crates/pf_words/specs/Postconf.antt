@@ -5,7 +5,7 @@ use Rattle.std.specs.Option.{option_and_then, option_map_or}
 use Rattle.clap.specs.Words.{Row}
 use Rattle.pf_words.specs.Commands.{postconf_app}
 use Rattle.pf_words.specs.Found.{has_flag, rest_in, rows_in, value_in}
-use Rattle.pf_words.specs.Sets.{setting_of_word, settings_of_words}
+use Rattle.pf_words.specs.Assignments.{assignment_of_word, assignments_of_words}
 use Rattle.pf_words.specs.declared.postconf.ConfMode.{ConfMode}
 use Rattle.pf_words.specs.declared.postconf.ConfMode.TheVariants as mode
 use Rattle.pf_words.specs.declared.postconf.ConfWords.{ConfWords}
@@ -42,11 +42,11 @@ options_agree rows =
 
 -- the value of -o sets a parameter
 abbrev pub is_over : Option (List ℕ) → Bool
-is_over over = option_map_or (λ word. is_some (setting_of_word word)) over true
+is_over over = option_map_or (λ word. is_some (assignment_of_word word)) over true
 
 -- there is a word, and each sets a parameter, no two the same
 abbrev pub are_edits : List (List ℕ) → Bool
-are_edits words = nat_lt 0 (length words) && is_some (settings_of_words words)
+are_edits words = nat_lt 0 (length words) && is_some (assignments_of_words words)
 
 -- what the options and the further words say
 abbrev pub conf_with : List Row → ConfWords

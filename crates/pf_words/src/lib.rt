@@ -5,12 +5,12 @@ mod address;
 mod command;
 mod numbers;
 mod postconf;
-mod sets;
+mod assignments;
 mod smtpd;
 mod words;
 
 pub use address::{ipv4_of, octet_of};
 pub use postconf::{ConfMode, ConfWords, Shape};
-pub use sets::{setting_of_word, settings_of_words};
+pub use assignments::{assignment_of_word, assignments_of_words};
 pub use smtpd::SmtpdWords;
 pub use words::{SinkNames, Words, sink_names, words_of};

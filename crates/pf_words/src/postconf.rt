@@ -10,7 +10,7 @@ use crate::command::{
     bare_command, copy_of, has_flag, matches_in, rest_in, value_in, with_flags, with_options,
     with_rest,
 };
-use crate::sets::{setting_of_word, settings_of_words};
+use crate::assignments::{assignment_of_word, assignments_of_words};
 use clap::{ArgMatches, Command};
 use pf_base::{Bytes, List, NoMemory};
 use std::alloc::Global;
@@ -118,7 +118,7 @@ fn is_over(alloc: Global, over: &Option<Bytes>) -> Result<bool, NoMemory>
     match over {
         None => Ok(true),
         Some(word) => {
-            let setting = setting_of_word(alloc, word.as_slice())?;
+            let setting = assignment_of_word(alloc, word.as_slice())?;
             Ok(setting.is_some())
         }
     }
@@ -131,7 +131,7 @@ fn are_edits(alloc: Global, words: &[Bytes]) -> Result<bool, NoMemory>
     if words.is_empty() {
         return Ok(false);
     }
-    let settings = settings_of_words(alloc, words)?;
+    let settings = assignments_of_words(alloc, words)?;
     Ok(settings.is_some())
 }
 

@@ -7,8 +7,8 @@ use crate::add_number;
 use pf_base::{Bytes, ConfFault, NoMemory};
 use pf_maincf::MainCf;
 use pf_words::{
-    ConfMode, ConfWords, Shape, SmtpdWords, Words, ipv4_of, octet_of, setting_of_word,
-    settings_of_words, sink_names, words_of,
+    ConfMode, ConfWords, Shape, SmtpdWords, Words, ipv4_of, octet_of, assignment_of_word,
+    assignments_of_words, sink_names, words_of,
 };
 use std::alloc::Global;
 
@@ -107,7 +107,7 @@ fn add_sinks(alloc: Global, said: &mut Bytes, list: &[String]) -> Result<(), NoM
 
 // Adds the text of a main.cf after an edit by these words.
 fn add_edited(alloc: Global, said: &mut Bytes, words: &ConfWords) -> Result<(), NoMemory> {
-    let Some(sets) = settings_of_words(alloc, words.rest.as_slice())? else {
+    let Some(sets) = assignments_of_words(alloc, words.rest.as_slice())? else {
         return said.extend(b"none");
     };
     match MainCf::edit(alloc, b"main.cf", b"a = 1\n", &sets) {
@@ -125,7 +125,7 @@ fn add_edit(alloc: Global, said: &mut Bytes, list: &[String]) -> Result<(), NoMe
 }
 
 fn add_setting(alloc: Global, said: &mut Bytes, word: &str) -> Result<(), NoMemory> {
-    match setting_of_word(alloc, word.as_bytes())? {
+    match assignment_of_word(alloc, word.as_bytes())? {
         None => said.extend(b"none"),
         Some(set) => said.extend_all(&[set.name.as_slice(), b" = ", set.value.as_slice()]),
     }

@@ -6,7 +6,7 @@ use Rattle.pf_maincf.proofs.edit.edited_lines.Given as goal
 
 abbrev pub invariant-lines : goal.invariant-lines
 invariant-lines l =
-    (edited_lines l.sets l.text ≡ l.edited ++ blocks_left l.sets (option_copied l.set) (blocks_from l.number (lines_in l.left)))
+    (edited_lines l.assignments l.text ≡ l.edited ++ blocks_left l.assignments (option_copied l.assignment) (blocks_from l.number (lines_in l.left)))
     × (l.number + length l.left ≤ length l.text + 1)
 
 abbrev pub decreases-lines : goal.decreases-lines

@@ -1,7 +1,7 @@
 use Rattle.std.proofs.Common.{◌≡◌, ◌++◌, drop}
 use Rattle.std.specs.Option.{option_map}
 use Rattle.pf_top.specs.Nets.{net_of}
-use Rattle.pf_words.specs.Sets.{all_of}
+use Rattle.pf_words.specs.Assignments.{all_of}
 use Rattle.pf_top.proofs.values.all_nets.Given as goal
 
 abbrev pub invariant-loop-item : goal.invariant-loop-item

@@ -16,9 +16,9 @@ use Rattle.pf_maincf.specs.Settings.{is_name, is_name_byte, setting_of}
 use Rattle.pf_maincf.specs.declared.setting.Setting.{Setting}
 use Rattle.pf_maincf.proofs.Ends.{has_feed, or_left, or_right}
 
--- the line of a set without its line feed
-abbrev pub set_text : Setting → List ℕ
-set_text set = set.name ++ codes " = " ++ set.value
+-- the line of an assignment without its line feed
+abbrev pub assignment_text : Setting → List ℕ
+assignment_text assignment = assignment.name ++ codes " = " ++ assignment.value
 
 pub and_left : (a b : Bool) → (a && b) ≡ true → a ≡ true
 and_left true b h = refl
@@ -45,39 +45,39 @@ no_feed x h = let k = above_32 x h in ne_eqb x 10 (λ e. omega arith)
 no_space : (x : ℕ) → is_name_byte x ≡ true → is_space x ≡ false
 no_space x h = let k = above_32 x h in rw (ne_eqb x 32 (λ e. omega arith), ne_eqb x 9 (λ e. omega arith))
 
--- what is known of a set, part by part
-pub record IsSet (set : Setting) : Type 0 where
-  pub name : is_name set.name ≡ true
-  pub sign : list_any (λ b. eqb b 61) set.name ≡ false
-  pub comment : eqb (get_or set.name 0 0) 35 ≡ false
-  pub value : trimmed set.value ≡ set.value
-  pub feed : has_feed set.value ≡ false
-  pub returns : eqb (get_or set.value (length set.value - 1) 0) 13 ≡ false
+-- what is known of an assignment, part by part
+pub record IsSet (assignment : Setting) : Type 0 where
+  pub name : is_name assignment.name ≡ true
+  pub sign : list_any (λ b. eqb b 61) assignment.name ≡ false
+  pub comment : eqb (get_or assignment.name 0 0) 35 ≡ false
+  pub value : trimmed assignment.value ≡ assignment.value
+  pub feed : has_feed assignment.value ≡ false
+  pub returns : eqb (get_or assignment.value (length assignment.value - 1) 0) 13 ≡ false
 
-pub is_writable_is : (set : Setting) → is_writable set ≡ true → IsSet set
-is_writable_is set h =
-    let h5 = and_left _ (not (eqb (get_or set.value (length set.value - 1) 0) 13)) h in
-    let h4 = and_left _ (not (has_feed set.value)) h5 in
-    let h3 = and_left _ (bytes_eq (trimmed set.value) set.value) h4 in
-    let h2 = and_left (is_name set.name && not (list_any (λ b. eqb b 61) set.name)) (not (eqb (get_or set.name 0 0) 35)) h3 in
+pub is_writable_is : (assignment : Setting) → is_writable assignment ≡ true → IsSet assignment
+is_writable_is assignment h =
+    let h5 = and_left _ (not (eqb (get_or assignment.value (length assignment.value - 1) 0) 13)) h in
+    let h4 = and_left _ (not (has_feed assignment.value)) h5 in
+    let h3 = and_left _ (bytes_eq (trimmed assignment.value) assignment.value) h4 in
+    let h2 = and_left (is_name assignment.name && not (list_any (λ b. eqb b 61) assignment.name)) (not (eqb (get_or assignment.name 0 0) 35)) h3 in
     record {
-      name = and_left (is_name set.name) (not (list_any (λ b. eqb b 61) set.name)) h2;
-      sign = not_true _ (and_right (is_name set.name) (not (list_any (λ b. eqb b 61) set.name)) h2);
-      comment = not_true _ (and_right (is_name set.name && not (list_any (λ b. eqb b 61) set.name)) (not (eqb (get_or set.name 0 0) 35)) h3);
-      value = (bytes_eq-Decides (trimmed set.value) set.value).0 (and_right _ (bytes_eq (trimmed set.value) set.value) h4);
-      feed = not_true _ (and_right _ (not (has_feed set.value)) h5);
-      returns = not_true _ (and_right _ (not (eqb (get_or set.value (length set.value - 1) 0) 13)) h);
+      name = and_left (is_name assignment.name) (not (list_any (λ b. eqb b 61) assignment.name)) h2;
+      sign = not_true _ (and_right (is_name assignment.name) (not (list_any (λ b. eqb b 61) assignment.name)) h2);
+      comment = not_true _ (and_right (is_name assignment.name && not (list_any (λ b. eqb b 61) assignment.name)) (not (eqb (get_or assignment.name 0 0) 35)) h3);
+      value = (bytes_eq-Decides (trimmed assignment.value) assignment.value).0 (and_right _ (bytes_eq (trimmed assignment.value) assignment.value) h4);
+      feed = not_true _ (and_right _ (not (has_feed assignment.value)) h5);
+      returns = not_true _ (and_right _ (not (eqb (get_or assignment.value (length assignment.value - 1) 0) 13)) h);
     }
 
-name_bytes : (set : Setting) → IsSet set → list_all is_name_byte set.name ≡ true
-name_bytes set s = and_right _ (list_all is_name_byte set.name) s.name
+name_bytes : (assignment : Setting) → IsSet assignment → list_all is_name_byte assignment.name ≡ true
+name_bytes assignment s = and_right _ (list_all is_name_byte assignment.name) s.name
 
-pub text_feed : (set : Setting) → IsSet set → has_feed (set_text set) ≡ false
-text_feed set s =
+pub text_feed : (assignment : Setting) → IsSet assignment → has_feed (assignment_text assignment) ≡ false
+text_feed assignment s =
     rw (
-      list_any-append (λ b. eqb b 10) (set.name ++ codes " = ") set.value,
-      list_any-append (λ b. eqb b 10) set.name (codes " = "),
-      none_passes is_name_byte (λ b. eqb b 10) no_feed set.name (name_bytes set s),
+      list_any-append (λ b. eqb b 10) (assignment.name ++ codes " = ") assignment.value,
+      list_any-append (λ b. eqb b 10) assignment.name (codes " = "),
+      none_passes is_name_byte (λ b. eqb b 10) no_feed assignment.name (name_bytes assignment s),
     ) s.feed
 
 -- the first byte of a name is neither space nor a number sign
@@ -88,12 +88,12 @@ text_counts (b ∷ name) more h k =
     let space = no_space b (and_left (is_name_byte b) (list_all is_name_byte name) (and_right _ (list_all is_name_byte (b ∷ name)) h)) in
     (rw space k, space)
 
-pub text_is_not_ignored : (set : Setting) → IsSet set → is_ignored (set_text set) ≡ false
-text_is_not_ignored set s = rw
-    (append_assoc set.name) (text_counts set.name (codes " = " ++ set.value) s.name s.comment).0
+pub text_is_not_ignored : (assignment : Setting) → IsSet assignment → is_ignored (assignment_text assignment) ≡ false
+text_is_not_ignored assignment s = rw
+    (append_assoc assignment.name) (text_counts assignment.name (codes " = " ++ assignment.value) s.name s.comment).0
 
-pub text_begins : (set : Setting) → IsSet set → starts_with_space (set_text set) ≡ false
-text_begins set s = rw (append_assoc set.name) (text_counts set.name (codes " = " ++ set.value) s.name s.comment).1
+pub text_begins : (assignment : Setting) → IsSet assignment → starts_with_space (assignment_text assignment) ≡ false
+text_begins assignment s = rw (append_assoc assignment.name) (text_counts assignment.name (codes " = " ++ assignment.value) s.name s.comment).1
 
 -- the last byte is no carriage return
 last_behind : (xs : List ℕ) (y : ℕ) (ys : List ℕ) → get_or (xs ++ y ∷ ys) (length (xs ++ y ∷ ys) - 1) 0 ≡ get_or (y ∷ ys) (length (y ∷ ys) - 1) 0
@@ -112,8 +112,8 @@ value_last : (prefix value : List ℕ) → eqb (get_or value (length value - 1) 
 value_last prefix [] h = rw (append-nil (prefix ++ codes " = "), last_behind prefix 32 (61 ∷ 32 ∷ []))
 value_last prefix (b ∷ bytes) h = ap (λ x. eqb x 13) (last_behind (prefix ++ codes " = ") b bytes) ∙ h
 
-pub text_whole : (set : Setting) → IsSet set → without_return (set_text set) ≡ set_text set
-text_whole set s = no_return (set_text set) (value_last set.name set.value s.returns)
+pub text_whole : (assignment : Setting) → IsSet assignment → without_return (assignment_text assignment) ≡ assignment_text assignment
+text_whole assignment s = no_return (assignment_text assignment) (value_last assignment.name assignment.value s.returns)
 
 -- the first equals sign
 first_sign : (xs ys : List ℕ) → list_any (λ b. eqb b 61) xs ≡ false → position_or_len (λ b. eqb b 61) (xs ++ 61 ∷ ys) ≡ length xs
@@ -163,10 +163,10 @@ value_trimmed : (value : List ℕ) → trimmed value ≡ value → trimmed (32 �
 value_trimmed [] h = refl
 value_trimmed (b ∷ bytes) h = rw (drop_first (prefix_len is_space (b ∷ bytes)) 32 (b ∷ bytes)) h
 
-pub text_says : (set : Setting) (line last : ℕ) → IsSet set
-    → setting_of (record { line = line; last = last; text = set_text set }) ≡ Some (record { line = line; name = set.name; value = set.value })
-text_says set line last s =
-    let signs : list_any (λ b. eqb b 61) (set.name ++ 32 ∷ []) ≡ false = rw (list_any-append (λ b. eqb b 61) set.name (32 ∷ []), s.sign) in
-    let is = parted line last (set.name ++ 32 ∷ []) (32 ∷ set.value) signs in
-    let text : set_text set ≡ (set.name ++ 32 ∷ []) ++ 61 ∷ 32 ∷ set.value = simp append_assoc in
-    rw (text, is, name_trimmed set.name (none_passes is_name_byte is_space no_space set.name (name_bytes set s)), value_trimmed set.value s.value)
+pub text_says : (assignment : Setting) (line last : ℕ) → IsSet assignment
+    → setting_of (record { line = line; last = last; text = assignment_text assignment }) ≡ Some (record { line = line; name = assignment.name; value = assignment.value })
+text_says assignment line last s =
+    let signs : list_any (λ b. eqb b 61) (assignment.name ++ 32 ∷ []) ≡ false = rw (list_any-append (λ b. eqb b 61) assignment.name (32 ∷ []), s.sign) in
+    let is = parted line last (assignment.name ++ 32 ∷ []) (32 ∷ assignment.value) signs in
+    let text : assignment_text assignment ≡ (assignment.name ++ 32 ∷ []) ++ 61 ∷ 32 ∷ assignment.value = simp append_assoc in
+    rw (text, is, name_trimmed assignment.name (none_passes is_name_byte is_space no_space assignment.name (name_bytes assignment s)), value_trimmed assignment.value s.value)

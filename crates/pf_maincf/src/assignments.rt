@@ -1,9 +1,9 @@
-//! What an edit can set.
+//! What an edit can assign.
 ghost use Rattle.std.specs.Prelude.{◌≡◌, ◌==◌, true, map};
 ghost use Rattle.std.specs.List.{list_all, list_any};
 ghost use Rattle.std.specs.Str.{bytes_eq};
 ghost use Rattle.pf_maincf.specs.Edit as edit;
-ghost use Rattle.pf_maincf.specs.Edit.{AreSets};
+ghost use Rattle.pf_maincf.specs.Edit.{AreAssignments};
 
 use crate::setting::{Setting, is_name};
 use pf_base::{List, trimmed};
@@ -34,11 +34,11 @@ fn ends_in_return(value: &[u8]) -> bool
 
 /// Whether an edit can write a setting as one line: its name is one without `=` that begins no comment, and its value has no
 /// space at its ends, holds no line feed and does not end in a carriage return (postconf(5), main.cf format).
-pub fn is_writable(set: &Setting) -> bool
-    ensures { result ≡ edit.is_writable set.now }
+pub fn is_writable(assignment: &Setting) -> bool
+    ensures { result ≡ edit.is_writable assignment.now }
 {
-    let name = set.name.as_slice();
-    let value = set.value.as_slice();
+    let name = assignment.name.as_slice();
+    let value = assignment.value.as_slice();
     is_name(name)
         && !has_byte(name, b'=')
         && !begins_comment(name)
@@ -47,35 +47,37 @@ pub fn is_writable(set: &Setting) -> bool
         && !ends_in_return(value)
 }
 
-fn all_set(sets: &[Setting]) -> bool
-    ensures { result ≡ list_all edit.is_writable sets.now }
+fn all_writable(assignments: &[Setting]) -> bool
+    ensures { result ≡ list_all edit.is_writable assignments.now }
 {
-    sets.iter().all(|set| is_writable(set))
+    assignments.iter().all(|assignment| is_writable(assignment))
 }
 
 // Whether one of the settings has this name.
-fn sets_name(sets: &[Setting], name: &[u8]) -> bool
-    ensures { result ≡ list_any (λ set. bytes_eq name.now set.name) sets.now }
+fn has_name(assignments: &[Setting], name: &[u8]) -> bool
+    ensures { result ≡ list_any (λ assignment. bytes_eq name.now assignment.name) assignments.now }
 {
-    sets.iter().any(|set| name == set.name.as_slice())
+    assignments
+        .iter()
+        .any(|assignment| name == assignment.name.as_slice())
 }
 
 // Whether no further setting has the name of the first one.
-fn first_differs(sets: &[Setting]) -> bool
-    ensures { result ≡ edit.first_differs sets.now }
+fn first_differs(assignments: &[Setting]) -> bool
+    ensures { result ≡ edit.first_differs assignments.now }
 {
-    match sets {
+    match assignments {
         [] => true,
-        [first, more @ ..] => !sets_name(more, first.name.as_slice()),
+        [first, more @ ..] => !has_name(more, first.name.as_slice()),
     }
 }
 
 // Whether no name comes twice.
-fn names_differ(sets: &[Setting]) -> bool
-    ensures { result ≡ edit.differ (map (λ set. set.name) sets.now) }
+fn names_differ(assignments: &[Setting]) -> bool
+    ensures { result ≡ edit.differ (map (λ assignment. assignment.name) assignments.now) }
 {
-    for i in 0..sets.len() {
-        if !first_differs(&sets[i..]) {
+    for i in 0..assignments.len() {
+        if !first_differs(&assignments[i..]) {
             return false;
         }
     }
@@ -83,9 +85,9 @@ fn names_differ(sets: &[Setting]) -> bool
 }
 
 /// Whether an edit can write these settings: each of them, and no name twice.
-pub fn are_sets(sets: &List<Setting>) -> bool
-    ensures is { result ≡ edit.are_sets sets.now }
-    ensures sets { result ≡ true → AreSets sets.now }
+pub fn are_assignments(assignments: &List<Setting>) -> bool
+    ensures is { result ≡ edit.are_assignments assignments.now }
+    ensures assignments { result ≡ true → AreAssignments assignments.now }
 {
-    all_set(sets.as_slice()) && names_differ(sets.as_slice())
+    all_writable(assignments.as_slice()) && names_differ(assignments.as_slice())
 }

@@ -1,8 +1,0 @@
-use Rattle.std.proofs.Common.{◌≡◌, ◌++◌, drop}
-use Rattle.std.specs.Option.{option_map}
-use Rattle.pf_words.specs.Sets.{all_of, setting_of_word}
-use Rattle.pf_words.proofs.sets.all_settings.Given as goal
-
-abbrev pub invariant-loop-word : goal.invariant-loop-word
-invariant-loop-word l =
-    all_of setting_of_word l.words ≡ option_map (λ others. l.settings ++ others) (all_of setting_of_word (drop l.word-index l.words))
