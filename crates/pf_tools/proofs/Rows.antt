@@ -1,12 +1,16 @@
 -- Worked examples of the definitions, each by computation.
 use Rattle.std.proofs.Common.{◌≡◌, ℕ, true, false, List, [], ◌∷◌, map, length, None, Some, Ok, Err, refl, codes}
 use Rattle.std.specs.Fmt.{digits}
+use Rattle.std.specs.Net.Addr.{ipv4_bits, ipv6_bits}
+use Rattle.std.specs.Net.Reader.{read_ipv4, read_ipv6, read_number, read_octet, read_segment, read_segments}
 use Rattle.pf_base.specs.Text.Lines.{lines, rest}
 use Rattle.pf_base.specs.Text.Printing.{printed_line}
 use Rattle.pf_base.specs.Refusal.{cause_text, refusal_line}
 use Rattle.pf_base.specs.Text.Words.{words_of}
 use Rattle.pf_base.specs.declared.refused.Cause.TheVariants.{C2, C5, C10}
 use Rattle.pf_catalogue.specs.Catalogue.{catalogue}
+use Rattle.pf_cidr.specs.Addresses.{address_of}
+use Rattle.pf_cidr.specs.Nets.{host_of, net_of, written_net}
 use Rattle.pf_maincf.specs.Edit.{edited}
 use Rattle.pf_maincf.specs.Settings.{Conf, conf_of}
 use Rattle.pf_maincf.specs.declared.setting.Setting.{Setting}
@@ -127,7 +131,8 @@ file = codes "main.cf"
 
 set_names_of_a_text : file_said file (record words { mode = mode.Set; over = Some (codes "b=2") }) (Some (codes "b = 1\na =\n"))
     ≡ Ok (Printed (codes "a =\nb = 2\n") [])
-unfolding printed conf_of setting_of_word accepted reading_of words_of catalogue name_value text_value parts first_part form_of
+unfolding printed conf_of setting_of_word accepted reading_of words_of catalogue name_value text_value parts first_part form_of net_of written_net
+    host_of address_of ipv4_bits ipv6_bits read_ipv4 read_ipv6 read_number read_octet read_segment read_segments
 set_names_of_a_text = refl
 
 no_settings : file_said file words (Some (codes "a = 1\nb\n")) ≡ Err (record { file = file; line = 2; cause = C2; name = [] })
