@@ -1,27 +1,29 @@
 -- Worked examples of the definitions, each by computation.
-use Rattle.std.proofs.Common.{◌≡◌, ℕ, true, false, [], ◌∷◌, refl, codes}
+use Rattle.std.proofs.Common.{◌≡◌, true, false, [], ◌∷◌, refl, codes}
 use Rattle.pf_eval.specs.Judge.{end_from, end_of, is_destination, is_in_mynetworks, item_verdict, or_on, permit_mynetworks, reject_unauth_destination}
-use Rattle.pf_eval.specs.Nets.{Net, net_has}
+use Rattle.pf_cidr.specs.Nets.{Network}
+use Rattle.pf_cidr.specs.declared.address.Addr.{Addr}
+use Rattle.pf_cidr.specs.declared.address.Addr.TheVariants.{V4, V6}
 use Rattle.pf_eval.specs.declared.judge.Verdict.TheVariants.{Denies, GoesOn, Permits}
 use Rattle.pf_eval.specs.declared.policy.PlainEnd.TheVariants.{Accept, Deny}
 use Rattle.pf_eval.specs.declared.policy.PlainItem.TheVariants.{PermitMynetworks, RejectUnauthDestination}
 use Rattle.pf_eval.specs.declared.policy.PlainPolicy.{PlainPolicy}
 
 -- the net 10.0.0.0/8, the client 10.1.2.3 in it, and the client 192.0.2.9, which is a stranger
-abbrev ten : Net
-ten = record { addr = 167772160; prefix = 8 }
+abbrev ten : Network
+ten = record { addr = V4 167772160; prefix = 8 }
 
-abbrev own : ℕ
-own = 167838211
+abbrev own : Addr
+own = V4 167838211
 
-abbrev stranger : ℕ
-stranger = 3221225993
+abbrev stranger : Addr
+stranger = V4 3221225993
 
--- a site with two names and two nets, the other one 192.0.2.8/32
+-- a site with two names and three nets, the others 192.0.2.8/32 and 2001:db8::/32
 abbrev site : PlainPolicy
 site = record {
   destinations = codes "example.com" ∷ codes "Mail.example.org" ∷ [];
-  networks = ten ∷ record { addr = 3221225992; prefix = 32 } ∷ [];
+  networks = ten ∷ record { addr = V4 3221225992; prefix = 32 } ∷ record { addr = V6 0x20010db8000000000000000000000000; prefix = 32 } ∷ [];
   relay = PermitMynetworks ∷ RejectUnauthDestination ∷ [];
 }
 
@@ -29,37 +31,18 @@ site = record {
 abbrev bare : PlainPolicy
 bare = record { destinations = []; networks = []; relay = [] }
 
--- nets
-before_a_net : net_has ten 167772159 ≡ false
-before_a_net = refl
-
-first_of_a_net : net_has ten 167772160 ≡ true
-first_of_a_net = refl
-
-last_of_a_net : net_has ten 184549375 ≡ true
-last_of_a_net = refl
-
-after_a_net : net_has ten 184549376 ≡ false
-after_a_net = refl
-
-prefix_of_none_has_all : net_has (record { addr = 0; prefix = 0 }) 4294967295 ≡ true
-prefix_of_none_has_all = refl
-
-whole_prefix_has_one : net_has (record { addr = 3221225993; prefix = 32 }) 3221225993 ≡ true
-whole_prefix_has_one = refl
-
-whole_prefix_has_no_other : net_has (record { addr = 3221225993; prefix = 32 }) 3221225992 ≡ false
-whole_prefix_has_no_other = refl
-
-last_bit_does_not_count : net_has (record { addr = 3221225992; prefix = 31 }) 3221225993 ≡ true
-last_bit_does_not_count = refl
-
 -- clients
 client_of_the_first_net : is_in_mynetworks site own ≡ true
 client_of_the_first_net = refl
 
-client_of_the_second_net : is_in_mynetworks site 3221225992 ≡ true
+client_of_the_second_net : is_in_mynetworks site (V4 3221225992) ≡ true
 client_of_the_second_net = refl
+
+client_of_the_net_of_the_other_family : is_in_mynetworks site (V6 0x20010db8000000000000000000000001) ≡ true
+client_of_the_net_of_the_other_family = refl
+
+mapped_address_is_no_other_one : is_in_mynetworks site (V6 0xffff0a010203) ≡ false
+mapped_address_is_no_other_one = refl
 
 client_of_no_net : is_in_mynetworks site stranger ≡ false
 client_of_no_net = refl

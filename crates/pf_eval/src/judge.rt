@@ -5,6 +5,7 @@ ghost use Rattle.pf_eval.specs.Judge.{end_of};
 
 use crate::policy::{PlainEnd, PlainItem, PlainPolicy};
 use pf_base::same_in_any_case;
+use pf_cidr::Addr;
 
 // What an item says.
 #[derive(Clone, Copy)]
@@ -14,8 +15,8 @@ enum Verdict {
     GoesOn,
 }
 
-fn is_in_mynetworks(policy: &PlainPolicy, client: u32) -> bool
-    ensures { result ≡ judge.is_in_mynetworks policy.now client }
+fn is_in_mynetworks(policy: &PlainPolicy, client: &Addr) -> bool
+    ensures { result ≡ judge.is_in_mynetworks policy.now client.now }
 {
     policy.networks.as_slice().iter().any(|net| net.has(client))
 }
@@ -30,8 +31,8 @@ fn is_destination(policy: &PlainPolicy, domain: &[u8]) -> bool
         .any(|name| same_in_any_case(name.as_slice(), domain))
 }
 
-fn permit_mynetworks(policy: &PlainPolicy, client: u32) -> Verdict
-    ensures { result ≡ judge.permit_mynetworks policy.now client }
+fn permit_mynetworks(policy: &PlainPolicy, client: &Addr) -> Verdict
+    ensures { result ≡ judge.permit_mynetworks policy.now client.now }
 {
     if is_in_mynetworks(policy, client) {
         Verdict::Permits
@@ -50,8 +51,8 @@ fn reject_unauth_destination(policy: &PlainPolicy, domain: &[u8]) -> Verdict
     }
 }
 
-fn item_verdict(policy: &PlainPolicy, client: u32, domain: &[u8], item: PlainItem) -> Verdict
-    ensures { result ≡ judge.item_verdict policy.now client domain.now item }
+fn item_verdict(policy: &PlainPolicy, client: &Addr, domain: &[u8], item: PlainItem) -> Verdict
+    ensures { result ≡ judge.item_verdict policy.now client.now domain.now item }
 {
     match item {
         PlainItem::PermitMynetworks => permit_mynetworks(policy, client),
@@ -59,11 +60,11 @@ fn item_verdict(policy: &PlainPolicy, client: u32, domain: &[u8], item: PlainIte
     }
 }
 
-/// How the relay list ends for the client of this IPv4 address, whose first number is its highest byte, and a recipient in
-/// this domain, compared in any case (SMTPD_ACCESS_README). A list that no item ends accepts.
+/// How the relay list ends for the client of this address and a recipient in this domain, compared in any case
+/// (SMTPD_ACCESS_README). A list that no item ends accepts.
 #[tactic(auto, unfolding(crate::specs::Judge::end_of))]
-pub fn judge_plain(policy: &PlainPolicy, client: u32, domain: &[u8]) -> PlainEnd
-    ensures { result ≡ end_of policy.now client domain.now }
+pub fn judge_plain(policy: &PlainPolicy, client: &Addr, domain: &[u8]) -> PlainEnd
+    ensures { result ≡ end_of policy.now client.now domain.now }
 {
     let mut place: u64 = 1;
     for item in policy.relay.as_slice() {

@@ -2,9 +2,7 @@
 #![tactic(auto)]
 
 mod judge;
-mod net;
 mod policy;
 
 pub use judge::judge_plain;
-pub use net::PlainNet;
 pub use policy::{PlainEnd, PlainItem, PlainPolicy};

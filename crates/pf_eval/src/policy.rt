@@ -1,6 +1,6 @@
 //! The policy of a site with one list of two restrictions.
-use crate::net::PlainNet;
 use pf_base::{Bytes, List};
+use pf_cidr::Net;
 
 /// A restriction of the relay list (postconf(5)).
 #[derive(Clone, Copy, Debug, PartialEq, Eq)]
@@ -16,7 +16,7 @@ pub enum PlainItem {
 #[derive(Debug, Drop)]
 pub struct PlainPolicy {
     pub destinations: List<Bytes>,
-    pub networks: List<PlainNet>,
+    pub networks: List<Net>,
     pub relay: List<PlainItem>,
 }
 

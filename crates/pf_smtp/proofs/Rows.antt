@@ -3,6 +3,7 @@ use Rattle.std.proofs.Common.{◌≡◌, ◌++◌, true, false, [], ◌∷◌, m
 use Rattle.std.specs.Fmt.{digits}
 use Rattle.pf_base.specs.Text.Lines.{lines, rest}
 use Rattle.pf_base.specs.Text.Printing.{printed_line}
+use Rattle.pf_cidr.specs.declared.address.Addr.TheVariants.{V4}
 use Rattle.pf_eval.specs.Judge.{end_of}
 use Rattle.pf_eval.specs.declared.policy.PlainEnd.TheVariants.{Accept, Deny}
 use Rattle.pf_eval.specs.declared.policy.PlainItem.TheVariants.{PermitMynetworks, RejectUnauthDestination}
@@ -34,10 +35,10 @@ site = record {
   banner = codes "mx.example.com ESMTP Postfix";
   policy = record {
     destinations = codes "example.com" ∷ [];
-    networks = record { addr = 167772160; prefix = 8 } ∷ [];
+    networks = record { addr = V4 167772160; prefix = 8 } ∷ [];
     relay = PermitMynetworks ∷ RejectUnauthDestination ∷ [];
   };
-  client = 3221225993;
+  client = V4 3221225993;
 }
 
 abbrev joe : Address

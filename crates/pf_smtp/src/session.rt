@@ -9,6 +9,7 @@ use crate::progress::{LineBuffer, Progress};
 use crate::reply::print_greeting;
 use crate::state::{Setup, State};
 use pf_base::{Bytes, Sink, SinkFault, Texts, write_out, write_texts};
+use pf_cidr::Addr;
 use pf_eval::PlainPolicy;
 use std::alloc::Global;
 use std::marker::Model;
@@ -92,7 +93,7 @@ impl Session {
         host: Bytes,
         banner: Bytes,
         policy: PlainPolicy,
-        client: u32,
+        client: Addr,
     ) -> Session
         ensures { result ≡ record { begun = false; progress = fresh (record { host = host; banner = banner; policy = policy; client = client }) } }
     {

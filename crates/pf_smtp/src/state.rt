@@ -3,16 +3,17 @@ use crate::entry::Entry;
 use crate::path::Address;
 use crate::reply::Reply;
 use pf_base::Bytes;
+use pf_cidr::Addr;
 use pf_eval::PlainPolicy;
 
-/// The server's name, its banner, its policy, and the client's IPv4 address, whose first number is its highest byte. The banner
-/// is the bytes of the greeting between its code with a space and its line end (postconf(5), smtpd_banner).
+/// The server's name, its banner, its policy, and the client's address. The banner is the bytes of the greeting between its
+/// code with a space and its line end (postconf(5), smtpd_banner).
 #[derive(Debug, Drop)]
 pub struct Setup {
     pub host: Bytes,
     pub banner: Bytes,
     pub policy: PlainPolicy,
-    pub client: u32,
+    pub client: Addr,
 }
 
 /// How many lines there were, which stays at the greatest u64 once it is there, the sender of the transaction that is open,

@@ -72,7 +72,7 @@ impl State {
             return says(Reply::Rcpt(RcptReply::BadRecipient));
         };
         let line = self.line;
-        match judge_plain(&setup.policy, setup.client, recipient.domain()) {
+        match judge_plain(&setup.policy, &setup.client, recipient.domain()) {
             PlainEnd::Accept => logs(
                 Reply::Rcpt(RcptReply::Taken),
                 Entry::Accepted { line, recipient },

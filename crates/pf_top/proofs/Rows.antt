@@ -1,6 +1,8 @@
 -- Worked examples of the definitions, each by computation.
 use Rattle.std.proofs.Common.{◌≡◌, ℕ, ◌++◌, true, false, List, [], ◌∷◌, map, Option, None, Some, Result, Ok, Err, option_map, refl, codes}
 use Rattle.std.specs.Fmt.{digits}
+use Rattle.std.specs.Net.Addr.{ipv4_bits, ipv6_bits}
+use Rattle.std.specs.Net.Reader.{read_ipv4, read_ipv6, read_number, read_octet, read_segment, read_segments}
 use Rattle.pf_base.specs.Text.Lines.{lines}
 use Rattle.pf_base.specs.Text.Printing.{printed_line}
 use Rattle.pf_base.specs.Refusal.{cause_text, refusal_line}
@@ -11,8 +13,11 @@ use Rattle.pf_base.specs.declared.outside.texts.SinkFault.TheVariants as sink
 use Rattle.pf_base.specs.declared.outside.texts.Texts.{Texts}
 use Rattle.pf_catalogue.specs.Catalogue.{catalogue}
 use Rattle.pf_catalogue.specs.declared.value.Value.TheVariants.{Text, Items}
+use Rattle.pf_cidr.specs.Addresses.{address_of}
+use Rattle.pf_cidr.specs.Nets.{Network, host_of as net_host, net_of, written_net}
+use Rattle.pf_cidr.specs.declared.address.Addr.{Addr}
+use Rattle.pf_cidr.specs.declared.address.Addr.TheVariants.{V4, V6}
 use Rattle.pf_eval.specs.Judge.{end_of}
-use Rattle.pf_eval.specs.Nets.{Net}
 use Rattle.pf_eval.specs.declared.policy.PlainItem.TheVariants.{PermitMynetworks, RejectUnauthDestination}
 use Rattle.pf_expand.specs.Expansion.{parts, text_value}
 use Rattle.pf_expand.specs.Forms.{first_part, form_of}
@@ -25,7 +30,6 @@ use Rattle.pf_smtp.specs.Path.{path_of}
 use Rattle.pf_smtp.specs.Session.{steps}
 use Rattle.pf_smtp.specs.Step.{command, step}
 use Rattle.pf_smtp.specs.Text.{accepted_text, denial_text, denied_text, greeting_of, helo_text, log_line, mail_text, quit_text, rcpt_text, recipient_text, relay_denied_text, text_of}
-use Rattle.pf_top.specs.Nets.{net_of, net_with}
 use Rattle.pf_top.specs.Opening.{opening_of, reading_named, setup_of}
 use Rattle.pf_top.specs.Profile.{cause_from, is_within, parameter_refusal}
 use Rattle.pf_top.specs.Refusals.{file_opened, relay_refusal, settings_refusal}
@@ -33,15 +37,14 @@ use Rattle.pf_top.specs.Run.{usage_line}
 use Rattle.pf_top.specs.Smtpd.{course_status, statuses_by, loop_status}
 use Rattle.pf_top.specs.Smtpd.{Course as course}
 use Rattle.pf_top.specs.SessionLoop.{speech_of}
-use Rattle.pf_top.specs.Values.{closed_list, host_of, hosts_of, is_closing, nets_of, one_or_more, relay_of, restriction_of}
+use Rattle.pf_top.specs.Values.{closed_list, host_of, hosts_of, is_closing, network_of, nets_of, one_or_more, relay_of, restriction_of}
 use Rattle.pf_top.specs.declared.opening.Opening.{Opening}
 use Rattle.pf_top.specs.declared.session_loop.Ended.TheVariants as ended
 use Rattle.pf_top.specs.declared.session_loop.LoopFault.TheVariants as fault
-use Rattle.pf_words.specs.Address.{ipv4_of, octet_of}
 
 -- what the examples share: a site, its settings and its text
-abbrev ten : Net
-ten = record { addr = 167772160; prefix = 8 }
+abbrev ten : Network
+ten = record { addr = V4 167772160; prefix = 8 }
 
 abbrev site : Opening
 site = record {
@@ -54,19 +57,16 @@ abbrev text : List ℕ
 text = codes "myhostname = mx.example.com\nmydestination = example.com\nmynetworks = 10.0.0.0/8\n"
     ++ codes "smtpd_relay_restrictions = permit_mynetworks, reject_unauth_destination\n"
 
--- nets
-longest_prefix : map (net_with 3221225993) (32 ∷ 33 ∷ []) ≡ Some (record { addr = 3221225993; prefix = 32 }) ∷ None ∷ []
-longest_prefix = refl
+-- nets: addresses and nets of both families, but no tables, nothing after an exclamation mark, and no net with bits after its prefix
+nets_of_items : map network_of (codes "10.0.0.0/8" ∷ codes "192.0.2.9" ∷ codes "[::ffff:127.0.0.0]/104" ∷ codes "[::1]" ∷ [])
+    ≡ Some ten ∷ Some (record { addr = V4 3221225993; prefix = 32 }) ∷ Some (record { addr = V6 0xffff7f000000; prefix = 104 })
+    ∷ Some (record { addr = V6 1; prefix = 128 }) ∷ []
+unfolding network_of net_of written_net net_host address_of ipv4_bits ipv6_bits read_ipv4 read_ipv6 read_number read_octet read_segment read_segments
+nets_of_items = refl
 
-bit_behind_the_prefix : map (net_with 167772168) (29 ∷ 28 ∷ []) ≡ Some (record { addr = 167772168; prefix = 29 }) ∷ None ∷ []
-bit_behind_the_prefix = refl
-
-two_nets : map net_of (codes "10.0.0.0/8" ∷ codes "0.0.0.0/0" ∷ []) ≡ Some ten ∷ Some (record { addr = 0; prefix = 0 }) ∷ []
-unfolding net_of ipv4_of octet_of
-two_nets = refl
-
-no_nets : map net_of (codes "10.0.0.0" ∷ codes "10.0.0.1/8" ∷ codes "10.0.0.0/08" ∷ codes "10.0.0.0/33" ∷ []) ≡ None ∷ None ∷ None ∷ None ∷ []
-unfolding net_of ipv4_of octet_of
+no_nets : map network_of (codes "10.0.0.1/8" ∷ codes "::1" ∷ codes "!10.0.0.0/8" ∷ codes "/nets" ∷ codes "a:b" ∷ codes "!a:b" ∷ codes "a.test" ∷ [])
+    ≡ None ∷ None ∷ None ∷ None ∷ None ∷ None ∷ None ∷ []
+unfolding network_of net_of written_net net_host address_of ipv4_bits ipv6_bits read_ipv4 read_ipv6 read_number read_octet read_segment read_segments
 no_nets = refl
 
 one_is_enough : map one_or_more ((ten ∷ []) ∷ [] ∷ []) ≡ Some (ten ∷ []) ∷ None ∷ []
@@ -86,13 +86,13 @@ no_hosts : map hosts_of ([] ∷ (codes "example.com" ∷ codes "!b" ∷ []) ∷ 
 unfolding hosts_of host_of
 no_hosts = refl
 
-nets_in_order : nets_of (codes "10.0.0.0/8" ∷ codes "192.0.2.9/32" ∷ []) ≡ Some (ten ∷ record { addr = 3221225993; prefix = 32 } ∷ [])
-unfolding nets_of net_of ipv4_of octet_of
+nets_in_order : nets_of (codes "10.0.0.0/8" ∷ codes "[::1]/128" ∷ []) ≡ Some (ten ∷ record { addr = V6 1; prefix = 128 } ∷ [])
+unfolding nets_of network_of net_of written_net net_host address_of ipv4_bits ipv6_bits read_ipv4 read_ipv6 read_number read_octet read_segment read_segments
 nets_in_order = refl
 
-net_or_address : map nets_of ([] ∷ (codes "10.0.0.0/8" ∷ codes "127.0.0.1" ∷ []) ∷ []) ≡ None ∷ None ∷ []
-unfolding nets_of net_of ipv4_of octet_of
-net_or_address = refl
+no_list_of_nets : map nets_of ([] ∷ (codes "10.0.0.0/8" ∷ codes "!10.1.0.0/16" ∷ []) ∷ []) ≡ None ∷ None ∷ []
+unfolding nets_of network_of net_of written_net net_host address_of ipv4_bits ipv6_bits read_ipv4 read_ipv6 read_number read_octet read_segment read_segments
+no_list_of_nets = refl
 
 words_in_any_case : map restriction_of (codes "Permit_MyNetworks" ∷ codes "REJECT_UNAUTH_DESTINATION" ∷ codes "permit" ∷ [])
     ≡ Some PermitMynetworks ∷ Some RejectUnauthDestination ∷ None ∷ []
@@ -124,8 +124,8 @@ hosts_within = refl
 host_within : map (λ value. is_within (codes "myhostname") false (a_text value)) (codes "localhost.localdomain" ∷ codes "a b" ∷ [] ∷ []) ≡ true ∷ false ∷ false ∷ []
 host_within = refl
 
-nets_within : map (λ set. is_within (codes "mynetworks") set (a_list (codes "10.0.0.0/8" ∷ []))) (true ∷ false ∷ []) ≡ true ∷ false ∷ []
-unfolding nets_of net_of ipv4_of octet_of
+nets_within : map (λ items. is_within (codes "mynetworks") false (a_list items)) ((codes "10.0.0.0/8" ∷ []) ∷ (codes "/nets" ∷ []) ∷ [] ∷ []) ≡ true ∷ false ∷ false ∷ []
+unfolding nets_of network_of net_of written_net net_host address_of ipv4_bits ipv6_bits read_ipv4 read_ipv6 read_number read_octet read_segment read_segments
 nets_within = refl
 
 relay_within : map (λ set. is_within (codes "smtpd_relay_restrictions") set (a_list (codes "permit" ∷ []))) (true ∷ false ∷ []) ≡ true ∷ false ∷ []
@@ -145,7 +145,7 @@ causes = refl
 -- what a main.cf says
 accepted_main_cf : map (file_opened (codes "main.cf")) (Some text ∷ None ∷ [])
     ≡ Ok site ∷ Err (record { file = codes "main.cf"; line = 0; cause = C10; name = codes "main.cf" }) ∷ []
-unfolding conf_of settings_refusal parameter_refusal opening_of reading_named reading_of words_of catalogue name_value text_value parts first_part form_of host_of hosts_of nets_of net_of ipv4_of octet_of relay_of
+unfolding conf_of settings_refusal parameter_refusal opening_of reading_named reading_of words_of catalogue name_value text_value parts first_part form_of host_of hosts_of nets_of network_of net_of written_net net_host address_of ipv4_bits ipv6_bits read_ipv4 read_ipv6 read_number read_octet read_segment read_segments relay_of
     restriction_of
 accepted_main_cf = refl
 
@@ -156,12 +156,16 @@ values_of_names : file_opened (codes "main.cf") (Some (codes "n = 10.0.0.0/8\nmy
       banner = codes "a.b M";
       policy = record { destinations = codes "a.b" ∷ codes "localhost.b" ∷ codes "localhost" ∷ []; networks = ten ∷ []; relay = RejectUnauthDestination ∷ [] };
     })
-unfolding conf_of settings_refusal parameter_refusal opening_of reading_named reading_of words_of catalogue name_value text_value parts first_part form_of host_of hosts_of nets_of net_of ipv4_of octet_of relay_of
+unfolding conf_of settings_refusal parameter_refusal opening_of reading_named reading_of words_of catalogue name_value text_value parts first_part form_of host_of hosts_of nets_of network_of net_of written_net net_host address_of ipv4_bits ipv6_bits read_ipv4 read_ipv6 read_number read_octet read_segment read_segments relay_of
     restriction_of
 values_of_names = refl
 
-with_its_client : setup_of site 167838211 ≡ record { host = site.host; banner = site.banner; policy = site.policy; client = 167838211 }
+with_its_client : setup_of site (V4 167838211) ≡ record { host = site.host; banner = site.banner; policy = site.policy; client = V4 167838211 }
 with_its_client = refl
+
+abbrev opened : Result Opening Refused → Option Opening
+opened (Ok opening) = Some opening
+opened other = None
 
 -- the lines of refused texts
 abbrev line_of : Result Opening Refused → Option (List ℕ)
@@ -179,21 +183,21 @@ lines_are_first = refl
 
 -- refusals of settings: none, a parameter that is not built, one that must be set, one without its form, of several the least name, and mydomain, which takes
 -- its value by default from a myhostname that has none
-parameters_in_order : map said (text ∷ (text ++ codes "relay_domains = a\n") ∷ codes "smtpd_relay_restrictions = permit\n" ∷ (text ++ codes "mydestination = a..b\n")
+parameters_in_order : map said (text ∷ (text ++ codes "relay_domains = a\n") ∷ codes "mynetworks = [::1]\n" ∷ (text ++ codes "mydestination = a..b\n")
     ∷ (text ++ codes "myhostname =\nappend_dot_mydomain = 1\n") ∷ (text ++ codes "relay_domains = a\nmyorigin = $\n") ∷ (text ++ codes "myhostname = $\n") ∷ [])
     ≡ None ∷ Some (codes "postgate: main.cf:5: C14 setting outside the profile: relay_domains\n")
-    ∷ Some (codes "postgate: main.cf:0: C14 setting outside the profile: mynetworks\n") ∷ Some (codes "postgate: main.cf:5: C14 setting outside the profile: mydestination\n")
+    ∷ Some (codes "postgate: main.cf:0: C14 setting outside the profile: smtpd_relay_restrictions\n") ∷ Some (codes "postgate: main.cf:5: C14 setting outside the profile: mydestination\n")
     ∷ Some (codes "postgate: main.cf:6: C6 bad value: append_dot_mydomain\n") ∷ Some (codes "postgate: main.cf:6: C5 bad dollar form: myorigin\n")
     ∷ Some (codes "postgate: main.cf:0: C5 bad dollar form: mydomain\n") ∷ []
-unfolding conf_of settings_refusal parameter_refusal reading_named reading_of words_of catalogue name_value text_value parts first_part form_of host_of hosts_of nets_of net_of
-    ipv4_of octet_of relay_of restriction_of refusal_line printed_line cause_text digits
+unfolding conf_of settings_refusal parameter_refusal reading_named reading_of words_of catalogue name_value text_value parts first_part form_of host_of hosts_of nets_of network_of
+    net_of written_net net_host address_of ipv4_bits ipv6_bits read_ipv4 read_ipv6 read_number read_octet read_segment read_segments relay_of restriction_of refusal_line printed_line cause_text digits
 parameters_in_order = refl
 
 -- a class is looked at among the parameters
 class_among_parameters : map said ((text ++ codes "smtpd_restriction_classes = a\na = {\n") ∷ (text ++ codes "smtpd_restriction_classes = z\nz = {\n") ∷ [])
     ≡ Some (codes "postgate: main.cf:6: C6 bad value: a\n") ∷ Some (codes "postgate: main.cf:5: C14 setting outside the profile: smtpd_restriction_classes\n") ∷ []
-unfolding conf_of settings_refusal parameter_refusal reading_named reading_of words_of catalogue name_value text_value parts first_part form_of host_of hosts_of nets_of net_of
-    ipv4_of octet_of relay_of restriction_of refusal_line printed_line cause_text digits
+unfolding conf_of settings_refusal parameter_refusal reading_named reading_of words_of catalogue name_value text_value parts first_part form_of host_of hosts_of nets_of network_of
+    net_of written_net net_host address_of ipv4_bits ipv6_bits read_ipv4 read_ipv6 read_number read_octet read_segment read_segments relay_of restriction_of refusal_line printed_line cause_text digits
 class_among_parameters = refl
 
 -- the relay list comes last, its words before what it lacks
@@ -208,22 +212,29 @@ checks_of_the_relay_list = refl
 
 relay_list_is_last : map said ((text ++ codes "smtpd_relay_restrictions = permit\nz = $(\n") ∷ (text ++ codes "virtual_alias_maps = a:b\nsmtpd_relay_restrictions = permit\n") ∷ [])
     ≡ Some (codes "postgate: main.cf:5: C7 unknown restriction: permit\n") ∷ Some (codes "postgate: main.cf:5: C14 setting outside the profile: virtual_alias_maps\n") ∷ []
-unfolding conf_of settings_refusal parameter_refusal reading_named reading_of words_of catalogue name_value text_value parts first_part form_of host_of hosts_of nets_of net_of
-    ipv4_of octet_of relay_of restriction_of refusal_line printed_line cause_text digits
+unfolding conf_of settings_refusal parameter_refusal reading_named reading_of words_of catalogue name_value text_value parts first_part form_of host_of hosts_of nets_of network_of
+    net_of written_net net_host address_of ipv4_bits ipv6_bits read_ipv4 read_ipv6 read_number read_octet read_segment read_segments relay_of restriction_of refusal_line printed_line cause_text digits
 relay_list_is_last = refl
 
+-- mynetworks by default
+default_networks : option_map (λ (opening : Opening). opening.policy.networks) (opened (file_opened (codes "main.cf") (Some (codes "smtpd_relay_restrictions = reject_unauth_destination\n"))))
+    ≡ Some (record { addr = V4 2130706432; prefix = 8 } ∷ record { addr = V6 1; prefix = 128 } ∷ [])
+unfolding conf_of settings_refusal parameter_refusal opening_of reading_named reading_of words_of catalogue name_value text_value parts first_part form_of host_of hosts_of nets_of network_of net_of written_net net_host address_of ipv4_bits ipv6_bits read_ipv4 read_ipv6 read_number read_octet read_segment read_segments relay_of
+    restriction_of
+default_networks = refl
+
 -- talks
-abbrev spoken : ℕ → List ℕ → Texts
+abbrev spoken : Addr → List ℕ → Texts
 spoken client taken = (speech_of (setup_of site client)).said taken
 
-greeting_alone : spoken 167838211 [] ≡ record { out = codes "220 mx.example.com ESMTP Postfix\r\n"; mail = []; log = [] }
+greeting_alone : spoken (V4 167838211) [] ≡ record { out = codes "220 mx.example.com ESMTP Postfix\r\n"; mail = []; log = [] }
 unfolding greeting_of steps lines
 greeting_alone = refl
 
 abbrev served : List ℕ
 served = codes "HELO c.test\r\nMAIL FROM:<a@b.test>\r\nRCPT TO:<joe@other.test>\r\nQUIT\r\nQUIT\r\n"
 
-texts_for_an_own_client : spoken 167838211 served ≡ record {
+texts_for_an_own_client : spoken (V4 167838211) served ≡ record {
   out = codes "220 mx.example.com ESMTP Postfix\r\n250 mx.example.com\r\n250 2.1.0 Ok\r\n250 2.1.5 Ok\r\n221 2.0.0 Bye\r\n";
   mail = [];
   log = codes "3 RCPT <joe@other.test> accept\n";
@@ -231,7 +242,7 @@ texts_for_an_own_client : spoken 167838211 served ≡ record {
 unfolding greeting_of steps step command verb_of after_keyword path_of end_of text_of helo_text mail_text rcpt_text quit_text log_line printed_line accepted_text recipient_text digits lines
 texts_for_an_own_client = refl
 
-texts_for_a_stranger : spoken 3221225993 served ≡ record {
+texts_for_a_stranger : spoken (V4 3221225993) served ≡ record {
   out = codes "220 mx.example.com ESMTP Postfix\r\n250 mx.example.com\r\n250 2.1.0 Ok\r\n"
       ++ codes "554 5.7.1 <joe@other.test>: Relay access denied\r\n221 2.0.0 Bye\r\n";
   mail = [];
@@ -240,7 +251,7 @@ texts_for_a_stranger : spoken 3221225993 served ≡ record {
 unfolding greeting_of steps step command verb_of after_keyword path_of end_of text_of helo_text mail_text rcpt_text relay_denied_text quit_text log_line printed_line denied_text recipient_text denial_text digits lines
 texts_for_a_stranger = refl
 
-over_behind_quit : map (speech_of (setup_of site 167838211)).over (served ∷ codes "HELO c.test\r\nQUIT" ∷ [] ∷ []) ≡ true ∷ false ∷ false ∷ []
+over_behind_quit : map (speech_of (setup_of site (V4 167838211))).over (served ∷ codes "HELO c.test\r\nQUIT" ∷ [] ∷ []) ≡ true ∷ false ∷ false ∷ []
 unfolding steps step command verb_of after_keyword path_of end_of lines
 over_behind_quit = refl
 

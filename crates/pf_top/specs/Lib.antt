@@ -1,5 +1,4 @@
 pub mod Clauses
-pub mod Nets
 pub mod Opening
 pub mod Profile
 pub mod Refusals

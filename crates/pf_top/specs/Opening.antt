@@ -4,6 +4,7 @@ use Rattle.std.specs.Option.{option_and_then, option_map_or, unwrap_or}
 use Rattle.pf_base.specs.declared.refused.Cause.{Cause}
 use Rattle.pf_catalogue.specs.Catalogue.{place_of, row_at}
 use Rattle.pf_catalogue.specs.Values.{items_in}
+use Rattle.pf_cidr.specs.declared.address.Addr.{Addr}
 use Rattle.pf_maincf.specs.Settings.{Conf}
 use Rattle.pf_params.specs.Parameters.{reading_of}
 use Rattle.pf_params.specs.declared.readings.Reading.{Reading}
@@ -44,5 +45,5 @@ opening_of s = record {
 }
 
 -- what the session with a client is set up with
-abbrev pub setup_of : Opening → ℕ → Setup
+abbrev pub setup_of : Opening → Addr → Setup
 setup_of opening client = record { host = opening.host; banner = opening.banner; policy = opening.policy; client = client }

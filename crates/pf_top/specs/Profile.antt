@@ -1,6 +1,6 @@
 -- The parameters that a session can be set up with, and the first that is refused (postconf(5), and docs/PROFILE.md for those that are built).
 -- The causes of refusals and their order are postgate's own.
-use Rattle.std.specs.Prelude.{ℕ, ◌&&◌, ◌||◌, Bool, not, List, [], ◌∷◌, Option, None, Some, Result, Ok, Err, is_some, codes, if◌then◌else◌}
+use Rattle.std.specs.Prelude.{ℕ, ◌||◌, Bool, not, List, [], ◌∷◌, Option, None, Some, Result, Ok, Err, is_some, codes, if◌then◌else◌}
 use Rattle.std.specs.Option.{option_map, option_or}
 use Rattle.std.specs.Str.{bytes_eq}
 use Rattle.pf_base.specs.Text.Names.{is_host_name}
@@ -18,13 +18,13 @@ use Rattle.pf_top.specs.Values.{hosts_of, nets_of}
 abbrev pub is_free : List ℕ → Bool
 is_free name = bytes_eq name (codes "mail_name") || bytes_eq name (codes "mydomain") || bytes_eq name (codes "smtpd_banner")
 
--- what is read of a parameter of this name, set or not, is within what is built: mydestination names hosts and myhostname one, mynetworks is set
--- and names networks, the relay list is set, and a parameter that is not built is not set
+-- what is read of a parameter of this name, set or not, is within what is built: mydestination names hosts, myhostname one, and
+-- mynetworks networks, the relay list is set, and a parameter that is not built is not set
 abbrev pub is_within : List ℕ → Bool → Reading → Bool
 is_within name set reading =
     if bytes_eq name (codes "mydestination") then is_some (hosts_of (items_in reading.value))
     else (if bytes_eq name (codes "myhostname") then is_host_name reading.text
-    else (if bytes_eq name (codes "mynetworks") then set && is_some (nets_of (items_in reading.value))
+    else (if bytes_eq name (codes "mynetworks") then is_some (nets_of (items_in reading.value))
     else (if bytes_eq name (codes "smtpd_relay_restrictions") then set
     else is_free name || not set)))
 

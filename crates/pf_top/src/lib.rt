@@ -1,7 +1,6 @@
 //! The top call: the words, and then the job of the command that they name.
 #![tactic(auto)]
 
-mod nets;
 mod opening;
 mod profile;
 mod refusal;

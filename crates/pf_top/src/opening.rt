@@ -11,7 +11,8 @@ use crate::refusal::settings_refusal;
 use crate::values::{nets_of, relay_of};
 use pf_base::{Bytes, ConfFault, List, NoMemory};
 use pf_catalogue::param;
-use pf_eval::{PlainItem, PlainNet, PlainPolicy};
+use pf_cidr::Net;
+use pf_eval::{PlainItem, PlainPolicy};
 use pf_maincf::MainCf;
 use pf_params::{Known, Reading};
 use std::alloc::Global;
@@ -63,7 +64,7 @@ pub(crate) fn items_named(
 }
 
 // The networks, where they have their form.
-fn networks_in(alloc: Global, known: &Known) -> Result<List<PlainNet>, NoMemory>
+fn networks_in(alloc: Global, known: &Known) -> Result<List<Net>, NoMemory>
     ensures { IfOk result (λ networks. networks ≡ unwrap_or (values.nets_of (opening.items_named known.now (codes "mynetworks"))) []) }
 {
     let items = items_named(alloc, known, b"mynetworks")?;

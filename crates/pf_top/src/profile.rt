@@ -31,7 +31,7 @@ fn is_within(alloc: Global, name: &[u8], set: bool, reading: &Reading) -> Result
         Ok(is_host_name(reading.text.as_slice()))
     } else if name == b"mynetworks".as_slice() {
         let networks = nets_of(alloc, reading.value.items())?;
-        Ok(set && networks.is_some())
+        Ok(networks.is_some())
     } else if name == b"smtpd_relay_restrictions".as_slice() {
         Ok(set)
     } else {

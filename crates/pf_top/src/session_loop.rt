@@ -8,6 +8,7 @@ ghost use Rattle.pf_top.specs.Clauses.Turns.{IsTurn, speech_from};
 
 use crate::opening::Opening;
 use pf_base::{Sink, SinkFault, Source};
+use pf_cidr::Addr;
 use pf_smtp::{Going, Session};
 use std::alloc::Global;
 
@@ -100,7 +101,7 @@ fn serve<S: Source, O: Sink, M: Sink, J: Sink>(
 pub(crate) fn run_session<S: Source, O: Sink, M: Sink, J: Sink>(
     alloc: Global,
     opening: Opening,
-    client: u32,
+    client: Addr,
     budget: u64,
     input: &mut S,
     out: &mut O,

@@ -1,13 +1,13 @@
 //! What the values of a session's parameters say (postconf(5)).
 ghost use Rattle.std.specs.Prelude.{◌≡◌, IfOk};
 ghost use Rattle.std.specs.List.{list_any};
-ghost use Rattle.pf_top.specs.Nets as nets;
 ghost use Rattle.pf_top.specs.Values as values;
 ghost use Rattle.pf_words.specs.Assignments.{all_of};
 
-use crate::nets::net_of;
 use pf_base::{Bytes, List, NoMemory, is_host_name, same_in_any_case};
-use pf_eval::{PlainItem, PlainNet};
+use pf_catalogue::table_in;
+use pf_cidr::Net;
+use pf_eval::PlainItem;
 use std::alloc::Global;
 
 /// myhostname: a host name; None where the value is none.
@@ -36,12 +36,23 @@ fn all_hosts(alloc: Global, items: &[Bytes]) -> Result<Option<List<Bytes>>, NoMe
     Ok(Some(hosts))
 }
 
-fn all_nets(alloc: Global, items: &[Bytes]) -> Result<Option<List<PlainNet>>, NoMemory>
-    ensures { IfOk result (λ networks. networks ≡ all_of nets.net_of items.now) }
+// An address or a net, and no table.
+#[tactic(auto, unfolding(crate::specs::Values::network_of))]
+fn network_of(item: &[u8]) -> Option<Net>
+    ensures { result ≡ values.network_of item.now }
+{
+    match table_in(item) {
+        Some(_) => None,
+        None => Net::read(item).ok(),
+    }
+}
+
+fn all_nets(alloc: Global, items: &[Bytes]) -> Result<Option<List<Net>>, NoMemory>
+    ensures { IfOk result (λ networks. networks ≡ all_of values.network_of items.now) }
 {
     let mut nets = List::new(alloc);
     for item in items {
-        match net_of(item.as_slice()) {
+        match network_of(item.as_slice()) {
             None => return Ok(None),
             Some(net) => nets.push(net)?,
         }
@@ -94,7 +105,7 @@ pub(crate) fn hosts_of(alloc: Global, items: &[Bytes]) -> Result<Option<List<Byt
 
 /// mynetworks: one or more networks; None where the items are none.
 #[tactic(auto, unfolding(crate::specs::Values::nets_of))]
-pub(crate) fn nets_of(alloc: Global, items: &[Bytes]) -> Result<Option<List<PlainNet>>, NoMemory>
+pub(crate) fn nets_of(alloc: Global, items: &[Bytes]) -> Result<Option<List<Net>>, NoMemory>
     ensures { IfOk result (λ nets. nets ≡ values.nets_of items.now) }
 {
     match all_nets(alloc, items)? {

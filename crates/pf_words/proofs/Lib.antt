@@ -1,4 +1,3 @@
-pub mod AddressLemmas
 pub mod FoundLemmas
 pub mod Rows
 pub mod SimpleCommands

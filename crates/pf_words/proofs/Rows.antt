@@ -1,14 +1,15 @@
 -- Worked examples of the definitions, each by computation.
 use Rattle.std.proofs.Common.{◌≡◌, ℕ, true, false, List, [], ◌∷◌, map, Option, None, Some, option_map, refl, codes}
-use Rattle.std.specs.Fmt.{decimal, digits}
-use Rattle.std.specs.List.{range_with_len, slice_split}
+use Rattle.std.specs.List.{slice_split}
+use Rattle.std.specs.Net.Addr.{ipv4_bits, ipv6_bits}
+use Rattle.std.specs.Net.Reader.{read_ipv4, read_ipv6, read_number, read_octet, read_segment, read_segments}
 use Rattle.std.specs.Prelude.{◌==◌, ⊤}
 use Rattle.clap.specs.Words.{fault_of}
 use Rattle.clap.specs.declared.error.kind.ErrorKind.TheVariants as kind
 use Rattle.clap.proofs.OnLiterals.{clap_on_literals}
 use Rattle.pf_maincf.specs.declared.setting.Setting.{Setting}
-use Rattle.pf_base.specs.Options.{◌>>=◌}
-use Rattle.pf_words.specs.Address.{ipv4_of, ipv4_of_octets, octet_of}
+use Rattle.pf_cidr.specs.Addresses.{address_of}
+use Rattle.pf_cidr.specs.declared.address.Addr.TheVariants.{V4, V6}
 use Rattle.pf_words.specs.Commands.{bare_app, postconf_app, smtpd_app, with_flag, with_option, with_rest}
 use Rattle.pf_words.specs.Found.{has_flag, rows_in, value_in}
 use Rattle.pf_base.specs.Text.Numbers.{decimal_within, is_decimal}
@@ -44,43 +45,6 @@ decimals = refl
 
 decimals_within : map (decimal_within 407) (codes "407" ∷ codes "408" ∷ codes "0" ∷ codes "07" ∷ []) ≡ Some 407 ∷ None ∷ Some 0 ∷ None ∷ []
 decimals_within = refl
-
--- octets
-ends_of_octets : map octet_of (codes "0" ∷ codes "255" ∷ codes "256" ∷ []) ≡ Some 0 ∷ Some 255 ∷ None ∷ []
-unfolding octet_of
-ends_of_octets = refl
-
-leading_zeros : map octet_of (codes "10" ∷ codes "01" ∷ codes "00" ∷ codes "012" ∷ []) ≡ Some 10 ∷ None ∷ None ∷ None ∷ []
-unfolding octet_of
-leading_zeros = refl
-
-no_number : map octet_of ([] ∷ codes "a" ∷ codes "1a" ∷ codes "1000" ∷ []) ≡ None ∷ None ∷ None ∷ None ∷ []
-unfolding octet_of
-no_number = refl
-
--- each number from 0 to 255 is read back from its decimal digits
-all_octets : map (λ n. octet_of (decimal n)) (range_with_len 0 256) ≡ map Some (range_with_len 0 256)
-unfolding octet_of digits
-all_octets = refl
-
--- one after the other
-goes_on_where_there_is_one : map (λ o. o >>= octet_of) (Some (codes "7") ∷ Some (codes "a") ∷ None ∷ []) ≡ Some 7 ∷ None ∷ None ∷ []
-unfolding octet_of
-goes_on_where_there_is_one = refl
-
--- addresses
-four_octets : map ipv4_of_octets ((codes "192" ∷ codes "0" ∷ codes "2" ∷ codes "9" ∷ []) ∷ (codes "10" ∷ codes "1" ∷ codes "2" ∷ []) ∷ [])
-    ≡ Some 3221225993 ∷ None ∷ []
-unfolding octet_of
-four_octets = refl
-
-greatest_address : ipv4_of (codes "255.255.255.255") ≡ Some 4294967295
-unfolding ipv4_of octet_of
-greatest_address = refl
-
-no_addresses : map ipv4_of (codes "10.1.2" ∷ codes "10.1.2.3." ∷ codes "10.1.2.256" ∷ []) ≡ None ∷ None ∷ None ∷ []
-unfolding ipv4_of octet_of
-no_addresses = refl
 
 -- budgets
 ends_of_budgets : map budget_of (codes "1" ∷ codes "4294967296" ∷ codes "4294967297" ∷ codes "99999999999999999999" ∷ [])
@@ -139,50 +103,55 @@ values_found = refl
 
 -- smtpd
 abbrev smtpd : SmtpdWords
-smtpd = record { folder = None; client = 167838211; mail = codes "mail"; log = None; budget = 4294967296 }
+smtpd = record { folder = None; client = V4 167838211; mail = codes "mail"; log = None; budget = 4294967296 }
 
 client_and_mail : map said (codes "smtpd -p 10.1.2.3 -m mail" ∷ codes "smtpd -m mail -p 10.1.2.3" ∷ [])
     ≡ Some (Smtpd smtpd) ∷ Some (Smtpd smtpd) ∷ []
-unfolding words_of smtpd_of smtpd_in rows_in given_to_clap clap_on_literals ipv4_of octet_of
+unfolding words_of smtpd_of smtpd_in rows_in given_to_clap clap_on_literals address_of ipv4_bits ipv6_bits read_ipv4 read_ipv6 read_number read_octet read_segment read_segments
 client_and_mail = refl
+
+clients_of_ipv6 : map said (codes "smtpd -p ::1 -m mail" ∷ codes "smtpd -p::ffff:10.1.2.3 -m mail" ∷ codes "smtpd -p [::1] -m mail" ∷ [])
+    ≡ Some (Smtpd (record smtpd { client = V6 1 })) ∷ Some (Smtpd (record smtpd { client = V6 0xffff0a010203 })) ∷ None ∷ []
+unfolding words_of smtpd_of smtpd_in rows_in given_to_clap clap_on_literals address_of ipv4_bits ipv6_bits read_ipv4 read_ipv6 read_number read_octet read_segment read_segments
+clients_of_ipv6 = refl
 
 values_in_the_same_word : map said (codes "smtpd -p10.1.2.3 -m=mail" ∷ codes "smtpd -p 10.1.2.3 -m==mail --" ∷ codes "smtpd -p 10.1.2.3 -m=" ∷ [])
     ≡ Some (Smtpd smtpd) ∷ Some (Smtpd (record smtpd { mail = codes "=mail" })) ∷ Some (Smtpd (record smtpd { mail = [] })) ∷ []
-unfolding words_of smtpd_of smtpd_in rows_in given_to_clap clap_on_literals ipv4_of octet_of
+unfolding words_of smtpd_of smtpd_in rows_in given_to_clap clap_on_literals address_of ipv4_bits ipv6_bits read_ipv4 read_ipv6 read_number read_octet read_segment read_segments
 values_in_the_same_word = refl
 
 all_options : said (codes "smtpd -b 7 -l log -c etc -m mail -p 10.1.2.3")
     ≡ Some (Smtpd (record smtpd { folder = Some (codes "etc"); log = Some (codes "log"); budget = 7 }))
-unfolding words_of smtpd_of smtpd_in rows_in given_to_clap clap_on_literals ipv4_of octet_of budget_of
+unfolding words_of smtpd_of smtpd_in rows_in given_to_clap clap_on_literals address_of ipv4_bits ipv6_bits read_ipv4 read_ipv6 read_number read_octet read_segment read_segments budget_of
 all_options = refl
 
 dash_and_empty_word : map said (codes "smtpd -p 10.1.2.3 -m - -l -" ∷ codes "smtpd -m  -p 10.1.2.3" ∷ [])
     ≡ Some (Smtpd (record smtpd { mail = codes "-"; log = Some (codes "-") })) ∷ Some (Smtpd (record smtpd { mail = [] })) ∷ []
-unfolding words_of smtpd_of smtpd_in rows_in given_to_clap clap_on_literals ipv4_of octet_of
+unfolding words_of smtpd_of smtpd_in rows_in given_to_clap clap_on_literals address_of ipv4_bits ipv6_bits read_ipv4 read_ipv6 read_number read_octet read_segment read_segments
 dash_and_empty_word = refl
 
 option_is_no_value : map said (codes "smtpd -p 10.1.2.3 -m -l" ∷ codes "smtpd -p 10.1.2.3 -m -x" ∷ codes "smtpd -p 10.1.2.3 -m -- mail" ∷ [])
     ≡ None ∷ None ∷ None ∷ []
-unfolding words_of smtpd_of smtpd_in rows_in given_to_clap clap_on_literals ipv4_of octet_of
+unfolding words_of smtpd_of smtpd_in rows_in given_to_clap clap_on_literals address_of ipv4_bits ipv6_bits read_ipv4 read_ipv6 read_number read_octet read_segment read_segments
 option_is_no_value = refl
 
 one_of_the_two_is_missing : map said (codes "smtpd -p 10.1.2.3" ∷ codes "smtpd -m mail" ∷ codes "smtpd" ∷ codes "smtpd -p 10.1.2.3 -m" ∷ [])
     ≡ None ∷ None ∷ None ∷ None ∷ []
-unfolding words_of smtpd_of smtpd_in rows_in given_to_clap clap_on_literals ipv4_of octet_of
+unfolding words_of smtpd_of smtpd_in rows_in given_to_clap clap_on_literals address_of ipv4_bits ipv6_bits read_ipv4 read_ipv6 read_number read_octet read_segment read_segments
 one_of_the_two_is_missing = refl
 
 bad_values : map said (codes "smtpd -p 10.1.2 -m mail" ∷ codes "smtpd -p 10.1.2.3 -m mail -b 0" ∷ codes "smtpd -p 10.1.2.3 -m mail -b " ∷ [])
     ≡ None ∷ None ∷ None ∷ []
-unfolding words_of smtpd_of smtpd_in rows_in given_to_clap clap_on_literals ipv4_of octet_of budget_of
+unfolding words_of smtpd_of smtpd_in rows_in given_to_clap clap_on_literals address_of ipv4_bits ipv6_bits read_ipv4 read_ipv6 read_number read_octet read_segment read_segments budget_of
 bad_values = refl
 
 option_twice : map said (codes "smtpd -p 10.1.2.3 -m mail -m mail" ∷ codes "smtpd -p 10.1.2.3 -l a -m mail -l=a" ∷ []) ≡ None ∷ None ∷ []
-unfolding words_of smtpd_of smtpd_in rows_in given_to_clap clap_on_literals ipv4_of octet_of
+unfolding words_of smtpd_of smtpd_in rows_in given_to_clap clap_on_literals address_of ipv4_bits ipv6_bits read_ipv4 read_ipv6 read_number read_octet read_segment read_segments
 option_twice = refl
 
 other_words : map said (codes "smtpd -p 10.1.2.3 -m mail -h" ∷ codes "smtpd -p 10.1.2.3 -m mail --help" ∷ codes "smtpd -p 10.1.2.3 -m mail more" ∷ [])
     ≡ None ∷ None ∷ None ∷ []
-unfolding words_of smtpd_of smtpd_in rows_in given_to_clap clap_on_literals ipv4_of octet_of
+unfolding words_of smtpd_of smtpd_in rows_in given_to_clap clap_on_literals address_of ipv4_bits ipv6_bits read_ipv4 read_ipv6 read_number read_octet read_segment read_segments
 other_words = refl
 
 -- postconf

@@ -1,4 +1,3 @@
-pub mod Address
 pub mod Clauses
 pub mod Commands
 pub mod Found

@@ -3,7 +3,7 @@ use Rattle.std.specs.Prelude.{ℕ, List, Option, Some, None, codes}
 use Rattle.std.specs.Option.{option_and_then}
 use Rattle.clap.specs.Words.{Row}
 use Rattle.pf_base.specs.Options.{◌>>=◌}
-use Rattle.pf_words.specs.Address.{ipv4_of}
+use Rattle.pf_cidr.specs.Addresses.{address_of}
 use Rattle.pf_words.specs.Commands.{smtpd_app}
 use Rattle.pf_words.specs.Found.{rows_in, value_in}
 use Rattle.pf_words.specs.Numbers.{budget_of, greatest_budget}
@@ -18,7 +18,7 @@ budget_in (Some text) = budget_of text
 unfoldable pub smtpd_in : List Row → Option SmtpdWords
 smtpd_in rows = do
   address ← value_in (codes "client") rows
-  client ← ipv4_of address
+  client ← address_of address
   mail ← value_in (codes "mail") rows
   budget ← budget_in (value_in (codes "budget") rows)
   Some (record {

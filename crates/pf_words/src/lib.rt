@@ -1,7 +1,6 @@
 //! The words of a command line: which command they name, and what its options and its further words say.
 #![tactic(auto)]
 
-mod address;
 mod command;
 mod numbers;
 mod postconf;
@@ -9,7 +8,6 @@ mod assignments;
 mod smtpd;
 mod words;
 
-pub use address::{ipv4_of, octet_of};
 pub use postconf::{ConfMode, ConfWords, Shape};
 pub use assignments::{assignment_of_word, assignments_of_words};
 pub use smtpd::SmtpdWords;

@@ -6,19 +6,19 @@ ghost use Rattle.pf_words.specs.Found.{rows_found};
 ghost use Rattle.pf_words.specs.Clauses.OptionsMeant.{options_meant};
 ghost use Rattle.pf_words.specs.Smtpd as smtpd;
 
-use crate::address::ipv4_of;
 use crate::command::{bare_command, copy_of, matches_in, value_in, with_options};
 use crate::numbers::{GREATEST_BUDGET, budget_of};
 use clap::{ArgMatches, Command};
 use pf_base::{Bytes, NoMemory};
+use pf_cidr::Addr;
 use std::alloc::Global;
 
-/// What the words of smtpd say: the folder of main.cf, the client's IPv4 address with its first octet the highest, the names of the files
-/// for the record of messages and for the log, and how many bytes the session may take.
+/// What the words of smtpd say: the folder of main.cf, the client's address, the names of the files for the
+/// record of messages and for the log, and how many bytes the session may take.
 #[derive(Debug, Drop)]
 pub struct SmtpdWords {
     pub folder: Option<Bytes>,
-    pub client: u32,
+    pub client: Addr,
     pub mail: Bytes,
     pub log: Option<Bytes>,
     pub budget: u64,
@@ -28,7 +28,7 @@ pub struct SmtpdWords {
 #[derive(Clone, Copy)]
 pub(crate) struct Options<'a> {
     pub(crate) folder: Option<&'a str>,
-    pub(crate) client: u32,
+    pub(crate) client: Addr,
     pub(crate) mail: &'a str,
     pub(crate) log: Option<&'a str>,
     pub(crate) budget: u64,
@@ -64,7 +64,7 @@ fn options_in<'a>(matches: &ArgMatches<'a>) -> Option<Options<'a>>
     ensures { option_map options_meant result ≡ smtpd.smtpd_in (rows_found matches.now) }
 {
     let address = value_in(matches, "client")?;
-    let client = ipv4_of(address.as_bytes())?;
+    let client = Addr::read(address.as_bytes())?;
     let mail = value_in(matches, "mail")?;
     let budget = budget_in(value_in(matches, "budget"))?;
     Some(Options {

@@ -2,13 +2,13 @@
 //!
 //! A row asks of its text, words that blanks part, in which `@` is nothing, so that it stands for an empty word, and `_` a blank:
 //! what `words_of` says (`words`), the names of the files of the record and the log (`sinks`), the text `a = 1` after the edit
-//! that the words ask for (`edit`), and what a part of a word is (`setting`, `ipv4`, `octet`); `no words` has none.
+//! that the words ask for (`edit`), and what a part of a word is (`setting`); `no words` has none.
 use crate::add_number;
 use pf_base::{Bytes, ConfFault, NoMemory};
 use pf_maincf::MainCf;
 use pf_words::{
-    ConfMode, ConfWords, Shape, SmtpdWords, Words, ipv4_of, octet_of, assignment_of_word,
-    assignments_of_words, sink_names, words_of,
+    ConfMode, ConfWords, Shape, SmtpdWords, Words, assignment_of_word, assignments_of_words,
+    sink_names, words_of,
 };
 use std::alloc::Global;
 
@@ -43,9 +43,8 @@ fn add_value(said: &mut Bytes, name: &[u8], value: &Option<Bytes>) -> Result<(),
 fn add_smtpd(alloc: Global, said: &mut Bytes, words: &SmtpdWords) -> Result<(), NoMemory> {
     said.extend(b"smtpd")?;
     add_value(said, b" c=", &words.folder)?;
-    said.extend(b" p=")?;
-    add_number(alloc, said, u64::from(words.client))?;
-    said.extend_all(&[b" m=", words.mail.as_slice()])?;
+    let client = words.client.print(alloc)?;
+    said.extend_all(&[b" p=", client.as_slice(), b" m=", words.mail.as_slice()])?;
     add_value(said, b" l=", &words.log)?;
     said.extend(b" b=")?;
     add_number(alloc, said, words.budget)
@@ -131,20 +130,11 @@ fn add_setting(alloc: Global, said: &mut Bytes, word: &str) -> Result<(), NoMemo
     }
 }
 
-fn add_some(alloc: Global, said: &mut Bytes, number: Option<u64>) -> Result<(), NoMemory> {
-    match number {
-        None => said.extend(b"none"),
-        Some(number) => add_number(alloc, said, number),
-    }
-}
-
 // Adds what a part of a word is.
 fn add_part(alloc: Global, said: &mut Bytes, kind: &str, word: &str) -> Result<(), NoMemory> {
     match kind {
         "no words" => add_words(alloc, said, &[]),
         "setting" => add_setting(alloc, said, word),
-        "ipv4" => add_some(alloc, said, ipv4_of(word.as_bytes()).map(u64::from)),
-        "octet" => add_some(alloc, said, octet_of(word.as_bytes()).map(u64::from)),
         _ => said.extend(b"no such kind"),
     }
 }
