@@ -1,4 +1,5 @@
 pub mod Clauses
+pub mod Listing
 pub mod Meanings
 pub mod Opening
 pub mod Specification

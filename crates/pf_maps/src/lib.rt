@@ -1,6 +1,7 @@
 //! Tables by the texts that name them (DATABASE_README): what a text names, and tables that were opened.
 #![tactic(auto)]
 
+mod listing;
 mod net_table;
 mod node;
 mod opening;

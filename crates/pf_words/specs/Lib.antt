@@ -4,6 +4,7 @@ pub mod Commands
 pub mod Found
 pub mod Numbers
 pub mod Postconf
+pub mod Postmap
 pub mod Sets
 pub mod Smtpd
 pub mod Words
