@@ -2,6 +2,7 @@
 #![tactic(auto)]
 
 mod cdb_table;
+mod listing;
 mod net_table;
 mod node;
 mod opening;

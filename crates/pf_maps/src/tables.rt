@@ -1,16 +1,17 @@
 //! Opened tables.
-ghost use Rattle.std.specs.Prelude.{◌≡◌, ◌<◌, length, slice_get};
+ghost use Rattle.std.specs.Prelude.{◌≡◌, ◌<◌, length, slice_get, IfOk};
 ghost use Rattle.pf_asks.specs.Looking.{answer_of};
 ghost use Rattle.pf_base.specs.Clauses.Unless.{Unless};
 ghost use Rattle.pf_maps.specs.Clauses.Opened.{Opens};
 ghost use Rattle.pf_maps.specs.Clauses.Seen as seen;
 ghost use Rattle.pf_maps.specs.Opening as opening;
 
+use crate::listing::pairs_of;
 use crate::node::Node;
 use crate::opening::{OpenFault, open_tables};
 use crate::walk::{find_table, has_partial_keys, results_of};
 use pf_asks::{Found, Lookup, Results, TableFault};
-use pf_base::{Files, List, NoMemory, Specs, TableId};
+use pf_base::{Files, List, NoMemory, Pair, Specs, TableId};
 use std::alloc::Global;
 use std::marker::Model;
 
@@ -51,6 +52,15 @@ impl Tables {
         ensures { result ≡ length self.now.tables }
     {
         self.tables.len()
+    }
+
+    /// The pairs of a text table or an inline table in their order, the keys as they are compared; of another table none
+    /// (postmap(1), -s). It is no lookup.
+    pub fn pairs(&self, alloc: Global, id: TableId) -> Result<List<Pair>, NoMemory>
+        requires { id.0 < length self.now.tables }
+        ensures { IfOk result (λ pairs. pairs ≡ seen.listed (slice_get self.now.tables id.0)) }
+    {
+        pairs_of(alloc, self.tables.at(id.0).as_slice())
     }
 
     // Counts a lookup.

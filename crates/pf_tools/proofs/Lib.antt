@@ -1,7 +1,11 @@
-pub mod LineLaws
-pub mod OrderLaws
 pub mod DefaultLaws
+pub mod KeyLaws
+pub mod LineLaws
+pub mod MapLaws
+pub mod MapRows
+pub mod OrderLaws
 pub mod ReportLaws
 pub mod Rows
 pub mod RunLaws
 pub mod StatusLaws
+pub mod TableLaws

@@ -1,6 +1,7 @@
 pub mod Asked
 pub mod Clauses
 pub mod Course
+pub mod Map
 pub mod Order
 pub mod Printed
 pub mod Run

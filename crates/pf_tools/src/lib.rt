@@ -1,9 +1,10 @@
-//! postconf: what it says of a main.cf, and what it writes (postconf(1)).
+//! postconf and postmap: what they say of a main.cf and of a table, and what they write (postconf(1), postmap(1)).
 #![tactic(auto)]
 
 mod asked;
 mod file;
 mod lines;
+mod map;
 mod order;
 mod report;
 mod said;
@@ -11,4 +12,5 @@ mod say;
 mod top;
 mod values;
 
+pub use map::run::postmap;
 pub use top::postconf;

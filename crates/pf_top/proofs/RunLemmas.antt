@@ -6,15 +6,19 @@ use Rattle.pf_base.specs.declared.outside.status.TheConstants.{NO_MEMORY}
 use Rattle.pf_base.specs.declared.outside.texts.SinkFault.TheVariants.{NoMemory}
 use Rattle.pf_tools.proofs.ReportLaws.{starved}
 use Rattle.pf_tools.proofs.RunLaws.{runs_short}
+use Rattle.pf_tools.proofs.MapLaws.{took_postmap}
+use Rattle.pf_tools.specs.Map.Course.{Course as map_course}
+use Rattle.pf_tools.specs.Map.Run.{PostmapRun}
 use Rattle.pf_tools.specs.Run.{PostconfRun}
 use Rattle.pf_top.proofs.StatusLemmas.{said_usage, took_course}
 use Rattle.pf_top.specs.Run.{Leaves, Unformed, usage_line}
 use Rattle.pf_top.specs.Smtpd.{SmtpdRun}
 use Rattle.pf_top.specs.Smtpd.{Course as course}
 use Rattle.pf_words.specs.declared.postconf.ConfWords.{ConfWords}
+use Rattle.pf_words.specs.declared.postmap.MapWords.{MapWords}
 use Rattle.pf_words.specs.declared.smtpd.SmtpdWords.{SmtpdWords}
 use Rattle.pf_words.specs.declared.words.Words.{Words}
-use Rattle.pf_words.specs.declared.words.Words.TheVariants.{Smtpd, Postconf}
+use Rattle.pf_words.specs.declared.words.Words.TheVariants.{Smtpd, Postconf, Postmap}
 
 -- it was out of memory before the command was known
 pub nothing_left : (words : Option Words) (o : Objects) → Leaves words o o NO_MEMORY
@@ -22,6 +26,7 @@ nothing_left None o = said_usage o o NO_MEMORY (Err NoMemory) refl (record { say
 nothing_left (Some (Smtpd words)) o = took_course words o o NO_MEMORY course.starves refl ((refl, refl), refl)
 nothing_left (Some (Postconf words)) o =
     runs_short words o.files o.files o.streams.input o.streams.sinks.mail o.streams.sinks.out o.streams.sinks.log (starved words o.files o.files (refl, refl)) (λ is. refl)
+nothing_left (Some (Postmap words)) o = took_postmap (record { course = map_course.starves; status_is = refl; leaves = ((refl, refl), refl) })
 
 -- the words that were read are those of the command
 module _ {before now : Objects} {status : ℕ} {answer read : Option Words} {inner : Words} (same : answer ≡ read) (some : answer ≡ Some inner) where
@@ -30,6 +35,9 @@ module _ {before now : Objects} {status : ℕ} {answer read : Option Words} {inn
 
   pub postconf_left : {words : ConfWords} → inner ≡ Postconf words → PostconfRun words before now status → Leaves read before now status
   postconf_left is ran = subst (λ w. Leaves w before now status) (ap Some (sym is) ∙ sym some ∙ same) ran
+
+  pub postmap_left : {words : MapWords} → inner ≡ Postmap words → PostmapRun words before now status → Leaves read before now status
+  postmap_left is ran = subst (λ w. Leaves w before now status) (ap Some (sym is) ∙ sym some ∙ same) ran
 
 pub unformed_left : {before now : Objects} {status : ℕ} {answer read : Option Words} → answer ≡ read → answer ≡ None → Unformed before now status → Leaves read before now status
 unformed_left {before} {now} {status} same none ran = subst (λ w. Leaves w before now status) (sym none ∙ same) ran

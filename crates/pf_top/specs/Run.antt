@@ -4,10 +4,11 @@ use Rattle.pf_base.specs.Outside.Objects.{Objects, status_of}
 use Rattle.pf_base.specs.Outside.Statuses.{HasCauses, counts_of, is_among}
 use Rattle.pf_base.specs.declared.outside.status.TheConstants.{LOG_FAILED, NO_MEMORY, USAGE}
 use Rattle.pf_base.specs.declared.outside.texts.SinkFault.{SinkFault}
+use Rattle.pf_tools.specs.Map.Run.{PostmapRun}
 use Rattle.pf_tools.specs.Run.{PostconfRun}
 use Rattle.pf_top.specs.Smtpd.{SaysLine, SmtpdRun}
 use Rattle.pf_words.specs.declared.words.Words.{Words}
-use Rattle.pf_words.specs.declared.words.Words.TheVariants.{Smtpd, Postconf}
+use Rattle.pf_words.specs.declared.words.Words.TheVariants.{Smtpd, Postconf, Postmap}
 
 -- how the program is used
 unfoldable pub usage_line : List ℕ
@@ -28,3 +29,4 @@ abbrev pub Leaves : Option Words → Objects → Objects → ℕ → Type 0
 Leaves None before now status = Unformed before now status
 Leaves (Some (Smtpd words)) before now status = SmtpdRun words before now status
 Leaves (Some (Postconf words)) before now status = PostconfRun words before now status
+Leaves (Some (Postmap words)) before now status = PostmapRun words before now status

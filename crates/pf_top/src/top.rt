@@ -9,7 +9,7 @@ ghost use Rattle.pf_words.specs.Words as spec;
 use crate::smtpd::run_smtpd;
 use pf_base::status::{NO_MEMORY, USAGE};
 use pf_base::{Files, NoMemory, Sink, SinkFault, Source, status_behind, write_log};
-use pf_tools::postconf;
+use pf_tools::{postconf, postmap};
 use pf_words::{Words, words_of};
 use std::alloc::Global;
 
@@ -26,8 +26,9 @@ fn say_usage<J: Sink>(log: &mut J) -> Result<(), SinkFault>
 
 /// Runs a command: `words` are the program's words without its own name. For smtpd the session's bytes come from `input`, the
 /// replies go to `out`, the record of messages to `mail`, the decisions to `log`, and main.cf is read from `files`; for
-/// postconf main.cf is read from `files` and in an edit replaced there, the settings go to `out` and the warnings to `log`. It
-/// answers the exit status, which is one of `pf_base::status`; those of the objects come only where the count of `input`, `out`,
+/// postconf main.cf is read from `files` and in an edit replaced there, the settings go to `out` and the warnings to `log`; for postmap
+/// a table is read from `files`, keys come from `input` where they are asked for, and values and pairs go to `out`. It answers the exit
+/// status, which is one of `pf_base::status`; those of the objects come only where the count of `input`, `out`,
 /// `mail`, `log` or `files` rose by one. No verb of today gives a record line.
 pub fn run<S: Source, O: Sink, M: Sink, J: Sink, F: Files>(
     alloc: Global,
@@ -45,6 +46,7 @@ pub fn run<S: Source, O: Sink, M: Sink, J: Sink, F: Files>(
     match words_of(alloc, words) {
         Ok(Some(Words::Smtpd(words))) => run_smtpd(alloc, &words, input, out, mail, log, files),
         Ok(Some(Words::Postconf(words))) => postconf(alloc, &words, files, out, log),
+        Ok(Some(Words::Postmap(words))) => postmap(alloc, &words, input, files, out, log),
         Ok(None) => status_behind(USAGE, say_usage(log)),
         Err(NoMemory) => NO_MEMORY,
     }

@@ -16,14 +16,17 @@ use Rattle.pf_base.specs.Text.Numbers.{decimal_within, is_decimal}
 use Rattle.pf_words.specs.Numbers.{budget_of}
 use Rattle.pf_words.specs.Postconf.{conf_in, conf_of}
 use Rattle.pf_words.specs.Assignments.{assignment_of_word, assignments_of_words}
+use Rattle.pf_words.specs.Postmap.{can_list, map_in, map_of}
 use Rattle.pf_words.specs.Smtpd.{smtpd_in, smtpd_of}
 use Rattle.pf_words.specs.Words.{log_name, mail_name, words_of}
 use Rattle.pf_words.specs.declared.postconf.ConfMode.TheVariants as mode
 use Rattle.pf_words.specs.declared.postconf.ConfWords.{ConfWords}
 use Rattle.pf_words.specs.declared.postconf.Shape.TheVariants as shape
+use Rattle.pf_words.specs.declared.postmap.MapJob.TheVariants as job
+use Rattle.pf_words.specs.declared.postmap.MapWords.{MapWords}
 use Rattle.pf_words.specs.declared.smtpd.SmtpdWords.{SmtpdWords}
 use Rattle.pf_words.specs.declared.words.Words.{Words}
-use Rattle.pf_words.specs.declared.words.Words.TheVariants.{Smtpd, Postconf}
+use Rattle.pf_words.specs.declared.words.Words.TheVariants.{Smtpd, Postconf, Postmap}
 
 -- what a proof opens to see the commands
 unfoldable given_to_clap : ⊤
@@ -214,8 +217,36 @@ edit_or_print : map said (codes "postconf -e -n a=1" ∷ codes "postconf -eh a=1
 unfolding words_of conf_of conf_in rows_in given_to_clap clap_on_literals assignments_of_words assignment_of_word
 edit_or_print = refl
 
+-- postmap
+abbrev pairs : MapWords
+pairs = record { job = job.Elements; folded = true; table = codes "texthash:t"; budget = 4294967296 }
+
+queries : map said (codes "postmap -q key texthash:t" ∷ codes "postmap -fqkey texthash:t" ∷ codes "postmap texthash:t -q=key" ∷ [])
+    ≡ Some (Postmap (record pairs { job = job.Query (codes "key") })) ∷ Some (Postmap (record pairs { job = job.Query (codes "key"); folded = false }))
+    ∷ Some (Postmap (record pairs { job = job.Query (codes "key") })) ∷ []
+unfolding words_of map_of map_in rows_in given_to_clap clap_on_literals
+queries = refl
+
+keys_of_the_input : map said (codes "postmap -q - texthash:t" ∷ codes "postmap -q - -b 7 texthash:t" ∷ [])
+    ≡ Some (Postmap (record pairs { job = job.QueryInput })) ∷ Some (Postmap (record pairs { job = job.QueryInput; budget = 7 })) ∷ []
+unfolding words_of map_of map_in rows_in given_to_clap clap_on_literals budget_of
+keys_of_the_input = refl
+
+no_budget : map said (codes "postmap -q key -b 7 t" ∷ codes "postmap -s -b 7 t" ∷ codes "postmap -q - -b 0 t" ∷ []) ≡ None ∷ None ∷ None ∷ []
+unfolding words_of map_of map_in rows_in given_to_clap clap_on_literals budget_of
+no_budget = refl
+
+all_pairs : map said (codes "postmap -s texthash:t" ∷ codes "postmap -sf t" ∷ codes "postmap -s cidr:t" ∷ codes "postmap -s -q key t" ∷ codes "postmap -s a b" ∷ codes "postmap -s" ∷ [])
+    ≡ Some (Postmap pairs) ∷ Some (Postmap (record pairs { folded = false; table = codes "t" })) ∷ None ∷ None ∷ None ∷ None ∷ []
+unfolding words_of map_of map_in rows_in given_to_clap clap_on_literals
+all_pairs = refl
+
+listed_types : map can_list (codes "t" ∷ codes "cdb:t" ∷ codes "inline:{}" ∷ codes "texthash:a:b" ∷ codes ":t" ∷ codes "static:a" ∷ codes "/t" ∷ [])
+    ≡ true ∷ true ∷ true ∷ true ∷ false ∷ false ∷ true ∷ []
+listed_types = refl
+
 -- other commands
-no_such_command : map words_of ([] ∷ words_in [] ∷ words_in (codes "Smtpd -p 10.1.2.3 -m mail") ∷ words_in (codes "postmap a") ∷ words_in (codes "-n postconf") ∷ [])
+no_such_command : map words_of ([] ∷ words_in [] ∷ words_in (codes "Smtpd -p 10.1.2.3 -m mail") ∷ words_in (codes "postmaps a") ∷ words_in (codes "-n postconf") ∷ [])
     ≡ None ∷ None ∷ None ∷ None ∷ None ∷ []
 unfolding words_of
 no_such_command = refl

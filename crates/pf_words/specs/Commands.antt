@@ -1,5 +1,5 @@
 -- The commands as clap is told of them. The commands, and the letters of smtpd, are postgate's own; the letters of postconf are those of
--- postconf(1). How options are written is clap's reading of the utility syntax guidelines (POSIX.1-2017, Base Definitions, 12.2).
+-- postconf(1), those of postmap of postmap(1), but for -b. How options are written is clap's reading of the utility syntax guidelines (POSIX.1-2017, Base Definitions, 12.2).
 use Rattle.std.specs.Prelude.{ℕ, true, List, [], ◌∷◌, Some, codes, fold}
 use Rattle.clap.specs.Lexer.{usize_max}
 use Rattle.clap.specs.Simple.{on_top}
@@ -60,6 +60,14 @@ postconf_flags = (110, codes "set") ∷ (100, codes "defaults") ∷ (120, codes 
 abbrev pub postconf_options : List (ℕ × Text)
 postconf_options = (99, codes "folder") ∷ (111, codes "over") ∷ []
 
+-- the flags of postmap: -s and -f
+abbrev pub postmap_flags : List (ℕ × Text)
+postmap_flags = (115, codes "elements") ∷ (102, codes "unfolded") ∷ []
+
+-- its options: -q and -b
+abbrev pub postmap_options : List (ℕ × Text)
+postmap_options = (113, codes "query") ∷ (98, codes "budget") ∷ []
+
 -- smtpd as clap is told of it
 abbrev pub smtpd_app : App
 smtpd_app = with_options (bare_app (codes "smtpd")) smtpd_options
@@ -67,3 +75,7 @@ smtpd_app = with_options (bare_app (codes "smtpd")) smtpd_options
 -- postconf as clap is told of it
 abbrev pub postconf_app : App
 postconf_app = with_rest (with_options (with_flags (bare_app (codes "postconf")) postconf_flags) postconf_options) (codes "rest")
+
+-- postmap as clap is told of it
+abbrev pub postmap_app : App
+postmap_app = with_rest (with_options (with_flags (bare_app (codes "postmap")) postmap_flags) postmap_options) (codes "rest")

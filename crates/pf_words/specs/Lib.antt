@@ -4,5 +4,6 @@ pub mod Found
 pub mod Numbers
 pub mod Postconf
 pub mod Assignments
+pub mod Postmap
 pub mod Smtpd
 pub mod Words

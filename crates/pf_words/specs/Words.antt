@@ -3,9 +3,10 @@ use Rattle.std.specs.Prelude.{◌≡◌, ℕ, Bool, false, true, List, Option, S
 use Rattle.std.specs.Option.{option_map, option_map_or}
 use Rattle.std.specs.Str.{bytes_eq}
 use Rattle.pf_words.specs.Postconf.{conf_of, sets_parameters}
+use Rattle.pf_words.specs.Postmap.{map_of}
 use Rattle.pf_words.specs.Smtpd.{smtpd_of}
 use Rattle.pf_words.specs.declared.words.Words.{Words}
-use Rattle.pf_words.specs.declared.words.Words.TheVariants.{Smtpd, Postconf}
+use Rattle.pf_words.specs.declared.words.Words.TheVariants.{Smtpd, Postconf, Postmap}
 
 -- the first word is the command's name
 abbrev pub names_command : List ℕ → List (List ℕ) → Bool
@@ -16,7 +17,8 @@ unfoldable pub words_of : List (List ℕ) → Option Words
 words_of words =
     if names_command (codes "smtpd") words then option_map Smtpd (smtpd_of words)
     else (if names_command (codes "postconf") words then option_map Postconf (conf_of words)
-    else None)
+    else (if names_command (codes "postmap") words then option_map Postmap (map_of words)
+    else None))
 
 -- the name of the file for the record of messages, which smtpd alone has
 abbrev pub mail_name : Option Words → Option (List ℕ)
@@ -32,3 +34,4 @@ log_name other = None
 abbrev pub SetsParameters : Words → Type 0
 SetsParameters (Smtpd words) = Unit {0}
 SetsParameters (Postconf words) = sets_parameters words ≡ true
+SetsParameters (Postmap words) = Unit {0}

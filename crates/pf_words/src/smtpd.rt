@@ -50,7 +50,7 @@ fn smtpd_command<'a>(alloc: Global) -> Result<Command<'a>, NoMemory>
     )
 }
 
-fn budget_in(text: Option<&str>) -> Option<u64>
+pub(crate) fn budget_in(text: Option<&str>) -> Option<u64>
     ensures { result ≡ smtpd.budget_in (option_map (λ t. t.now) text.entry) }
 {
     match text {

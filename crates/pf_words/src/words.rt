@@ -4,6 +4,7 @@ ghost use Rattle.std.specs.String.{string_bytes};
 ghost use Rattle.pf_words.specs.Words as spec;
 
 use crate::postconf::{ConfWords, conf_words};
+use crate::postmap::{MapWords, map_words};
 use crate::smtpd::{SmtpdWords, smtpd_options, smtpd_words};
 use pf_base::NoMemory;
 use std::alloc::Global;
@@ -13,6 +14,7 @@ use std::alloc::Global;
 pub enum Words {
     Smtpd(SmtpdWords),
     Postconf(ConfWords),
+    Postmap(MapWords),
 }
 
 /// The names of the files that a command gives to its record of messages and its log.
@@ -33,8 +35,8 @@ fn names_command(name: &str, words: &[String]) -> bool
 }
 
 /// What words say, the first of which names the command: `smtpd [-c folder] -p client -m mail [-l log] [-b budget]`,
-/// `postconf [-n or -d] [-x] [-h or -H] [-c folder] [-o name=value] [name ..]` or `postconf -e [-c folder] name=value ..`. None where they
-/// are not of these forms. No option comes twice; its value is the next word or the rest of its word, a leading `=` dropped; flags may be
+/// `postconf [-n or -d] [-x] [-h or -H] [-c folder] [-o name=value] [name ..]`, `postconf -e [-c folder] name=value ..`,
+/// `postmap -q key [-f] type:name`, `postmap -q - [-f] [-b budget] type:name` or `postmap -s [-f] type:name`. None where they are not of these forms. No option comes twice; its value is the next word or the rest of its word, a leading `=` dropped; flags may be
 /// joined; `--` ends the options; options may be after other words. The commands are postgate's own, the letters of postconf are those of
 /// postconf(1), and how options are written is that of the kit's clap.
 #[tactic(auto, unfolding(crate::specs::Words::words_of))]
@@ -51,6 +53,11 @@ pub fn words_of(alloc: Global, words: &[String]) -> Result<Option<Words>, NoMemo
         match conf_words(alloc, words)? {
             None => Ok(None),
             Some(words) => Ok(Some(Words::Postconf(words))),
+        }
+    } else if names_command("postmap", words) {
+        match map_words(alloc, words)? {
+            None => Ok(None),
+            Some(words) => Ok(Some(Words::Postmap(words))),
         }
     } else {
         Ok(None)

@@ -7,8 +7,8 @@ use crate::add_number;
 use pf_base::{Bytes, ConfFault, NoMemory};
 use pf_maincf::MainCf;
 use pf_words::{
-    ConfMode, ConfWords, Shape, SmtpdWords, Words, assignment_of_word, assignments_of_words,
-    sink_names, words_of,
+    ConfMode, ConfWords, MapJob, MapWords, Shape, SmtpdWords, Words, assignment_of_word,
+    assignments_of_words, sink_names, words_of,
 };
 use std::alloc::Global;
 
@@ -83,11 +83,30 @@ fn add_postconf(said: &mut Bytes, words: &ConfWords) -> Result<(), NoMemory> {
     Ok(())
 }
 
+fn add_job(said: &mut Bytes, job: &MapJob) -> Result<(), NoMemory> {
+    match job {
+        MapJob::Query(key) => said.extend_all(&[b" <", key.as_slice(), b">"]),
+        MapJob::QueryInput => said.extend(b" keys"),
+        MapJob::Elements => said.extend(b" pairs"),
+    }
+}
+
+fn add_postmap(alloc: Global, said: &mut Bytes, words: &MapWords) -> Result<(), NoMemory> {
+    said.extend(b"postmap")?;
+    add_job(said, &words.job)?;
+    if words.folded {
+        said.extend(b" folded")?;
+    }
+    said.extend_all(&[b" t=", words.table.as_slice(), b" b="])?;
+    add_number(alloc, said, words.budget)
+}
+
 fn add_words(alloc: Global, said: &mut Bytes, list: &[String]) -> Result<(), NoMemory> {
     match words_of(alloc, list)? {
         None => said.extend(b"none"),
         Some(Words::Smtpd(words)) => add_smtpd(alloc, said, &words),
         Some(Words::Postconf(words)) => add_postconf(said, &words),
+        Some(Words::Postmap(words)) => add_postmap(alloc, said, &words),
     }
 }
 

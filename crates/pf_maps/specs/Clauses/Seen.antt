@@ -1,10 +1,12 @@
 -- Opened tables, as contracts see them. Words of contracts, by no standard.
-use Rattle.std.specs.Prelude.{ℕ, true, List, Option, None, Some, Result, Ok, length, slice_get}
+use Rattle.std.specs.Prelude.{ℕ, true, List, [], Option, None, Some, Result, Ok, length, slice_get}
 use Rattle.pf_base.specs.Outside.Counts.{counted_by}
 use Rattle.pf_base.specs.Results.{◌>>=◌}
+use Rattle.pf_base.specs.declared.pair.Pair.{Pair}
 use Rattle.pf_base.specs.declared.refused.Refused.{Refused}
 use Rattle.pf_asks.specs.Looking.{Meaning, Tables, Values}
 use Rattle.pf_table.specs.Tables.{fail_meaning}
+use Rattle.pf_maps.specs.Listing.{pairs_of}
 use Rattle.pf_maps.specs.Meanings.{meaning_of}
 use Rattle.pf_maps.specs.declared.node.Node.{Node}
 
@@ -17,6 +19,11 @@ pub record OpenTables : Type 0 where
 abbrev pub meaning_in : Option (List Node) → Meaning
 meaning_in None = fail_meaning
 meaning_in (Some nodes) = meaning_of nodes
+
+-- the pairs of a table; without a table there are none
+abbrev pub listed : Option (List Node) → List Pair
+listed None = []
+listed (Some nodes) = pairs_of nodes
 
 -- what tables mean
 abbrev pub values_of : List (List Node) → Values

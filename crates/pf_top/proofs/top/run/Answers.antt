@@ -1,6 +1,6 @@
 use Rattle.std.proofs.Common.{refl}
 use Rattle.pf_base.specs.Outside.Objects.{objects}
-use Rattle.pf_top.proofs.RunLemmas.{nothing_left, postconf_left, smtpd_left, unformed_left}
+use Rattle.pf_top.proofs.RunLemmas.{nothing_left, postconf_left, postmap_left, smtpd_left, unformed_left}
 use Rattle.pf_top.proofs.StatusLemmas.{said_usage}
 use Rattle.pf_top.proofs.top.run.Goals as goal
 
@@ -13,6 +13,11 @@ pub returns-in-Ok-Some-Postconf : goal.returns-in-Ok-Some-Postconf
 returns-in-Ok-Some-Postconf g c =
     let read = c.in-Ok-Some-Postconf in
     postconf_left read.ensures.is read.field-0-is read.field-0-0-is (c.postconf.ensures (g.S.Source.known c.args.input.now) (g.M.Sink.known c.args.mail.now))
+
+pub returns-in-Ok-Some-Postmap : goal.returns-in-Ok-Some-Postmap
+returns-in-Ok-Some-Postmap g c =
+    let read = c.in-Ok-Some-Postmap in
+    postmap_left read.ensures.is read.field-0-is read.field-0-0-is (c.postmap.ensures (g.M.Sink.known c.args.mail.now))
 
 pub returns-in-Ok-None : goal.returns-in-Ok-None
 returns-in-Ok-None g c =

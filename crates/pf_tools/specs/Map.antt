@@ -1,0 +1,5 @@
+pub mod Course
+pub mod Keys
+pub mod Lines
+pub mod Run
+pub mod Said
