@@ -16,8 +16,8 @@ use Rattle.pf_base.specs.declared.refused.ConfFault.{ConfFault}
 use Rattle.pf_base.specs.declared.refused.ConfFault.TheVariants as conf_fault
 use Rattle.pf_base.specs.declared.refused.Refused.{Refused}
 use Rattle.pf_base.specs.declared.table_texts.TableText.{TableText}
-use Rattle.pf_table.specs.Clauses.Faults.{as_fault}
-use Rattle.pf_table.specs.Text.{refused}
+use Rattle.pf_base.specs.Clauses.Faults.{as_fault}
+use Rattle.pf_base.specs.Refusal.{refused}
 use Rattle.pf_maps.specs.Clauses.Opened.{Kept, Leaves, Opens, Says, fault_of, held_as}
 use Rattle.pf_maps.specs.Opening.{bytes_in, table_text, text_or_refused}
 use Rattle.pf_maps.specs.declared.opening.OpenFault.{OpenFault}

@@ -8,7 +8,7 @@ use Rattle.pf_asks.specs.Looking.{answer_of}
 use Rattle.pf_asks.specs.declared.lookup.Found.TheVariants.{Value, Absent}
 use Rattle.pf_asks.specs.declared.lookup.Results.TheVariants.{Listed, Anything}
 use Rattle.pf_asks.specs.declared.lookup.TableFault.TheVariants.{Fails}
-use Rattle.pf_table.specs.Text.{refused}
+use Rattle.pf_base.specs.Refusal.{refused}
 use Rattle.pf_maps.specs.Meanings.{meaning_of}
 use Rattle.pf_maps.specs.Opening.{tables_opened}
 use Rattle.pf_maps.specs.Specification.{group_named, leaf, nodes_of, spec_of}

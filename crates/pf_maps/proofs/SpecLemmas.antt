@@ -11,7 +11,7 @@ use Rattle.pf_base.specs.declared.pair.Pair.{Pair}
 use Rattle.pf_base.specs.declared.refused.ConfFault.{ConfFault}
 use Rattle.pf_base.specs.declared.refused.ConfFault.TheVariants as conf_fault
 use Rattle.pf_base.specs.declared.refused.Refused.{Refused}
-use Rattle.pf_table.specs.Clauses.Faults.{as_fault}
+use Rattle.pf_base.specs.Clauses.Faults.{as_fault}
 use Rattle.pf_table.specs.Inline as inline
 use Rattle.pf_table.specs.Inline.{inline_of, inline_pairs}
 use Rattle.pf_table.specs.Tables.{Keyed}

@@ -14,7 +14,7 @@ use Rattle.pf_cdb.specs.Held.{elements_of}
 use Rattle.pf_cdb.specs.declared.damage.Damage.{Damage}
 use Rattle.pf_cdb.specs.declared.damage.Damage.TheVariants as damage
 use Rattle.pf_table.specs.Tables.{kept_key}
-use Rattle.pf_table.specs.Text.{refused}
+use Rattle.pf_base.specs.Refusal.{refused}
 
 -- the bytes of a file, and whether letters count as the same in either case: then a key is folded before it is asked for
 pub record Cdb : Type 0 where

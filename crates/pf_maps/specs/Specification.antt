@@ -12,7 +12,7 @@ use Rattle.pf_base.specs.declared.refused.Cause.TheVariants.{C9}
 use Rattle.pf_base.specs.declared.refused.Refused.{Refused}
 use Rattle.pf_base.specs.declared.text.words.WordsFault.{WordsFault}
 use Rattle.pf_table.specs.Inline.{in_brace, inline_pairs}
-use Rattle.pf_table.specs.Text.{refused}
+use Rattle.pf_base.specs.Refusal.{refused}
 use Rattle.pf_maps.specs.declared.specification.Group.{Group}
 use Rattle.pf_maps.specs.declared.specification.Group.TheVariants as group
 use Rattle.pf_maps.specs.declared.specification.SpecNode.{SpecNode}

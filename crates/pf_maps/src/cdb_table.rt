@@ -2,14 +2,14 @@
 ghost use Rattle.std.specs.Prelude.{◌≡◌, ◌++◌, flat_map, IfOk, OnOk};
 ghost use Rattle.pf_base.specs.Clauses.Unless.{Unless};
 ghost use Rattle.pf_cdb.specs.Held.{elements_of};
-ghost use Rattle.pf_table.specs.Clauses.Faults.{as_fault};
+ghost use Rattle.pf_base.specs.Clauses.Faults.{as_fault};
 ghost use Rattle.pf_maps.specs.Cdb as cdb;
 ghost use Rattle.pf_maps.specs.Cdb.{cdb_meaning};
 
 use pf_asks::{Found, Results, TableFault};
-use pf_base::{Bytes, Cause, ConfFault, List, NoMemory, Pair};
+use pf_base::{Bytes, Cause, ConfFault, List, NoMemory, Pair, refuse};
 use pf_cdb::{CdbFile, Damage, ends_in_null, without_null};
-use pf_table::{Table, kept_key, refused};
+use pf_table::{Table, kept_key};
 use std::alloc::Global;
 use std::marker::Model;
 
@@ -65,7 +65,7 @@ impl CdbTable {
     {
         match CdbFile::new(bytes) {
             Ok(file) => Ok(CdbTable { file, folds }),
-            Err(damage) => Err(refused(alloc, name, 0, Cause::C11, damage_text(damage))),
+            Err(damage) => Err(refuse(alloc, name, 0, Cause::C11, damage_text(damage))),
         }
     }
 

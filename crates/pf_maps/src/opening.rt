@@ -1,7 +1,7 @@
 //! How tables are opened.
 ghost use Rattle.std.specs.Prelude.{◌≡◌, Ok, IfOk};
 ghost use Rattle.pf_base.specs.Clauses.Unless.{Unless};
-ghost use Rattle.pf_table.specs.Clauses.Faults.{as_fault};
+ghost use Rattle.pf_base.specs.Clauses.Faults.{as_fault};
 ghost use Rattle.pf_maps.specs.Clauses.Opened.{Opens, fault_of, held_as};
 ghost use Rattle.pf_maps.specs.Opening as opening;
 
@@ -11,9 +11,10 @@ use crate::node::Node;
 use crate::specification::{SpecNode, spec};
 use pf_base::{
     Bytes, Cause, ConfFault, Files, List, NoMemory, ReadFault, Refused, Specs, TableId, read_all,
+    refuse,
 };
 use pf_cidr::CidrTable;
-use pf_table::{Inline, Repeats, StaticTable, TextRead, TextTable, refused};
+use pf_table::{Inline, Repeats, StaticTable, TextRead, TextTable};
 use std::alloc::Global;
 
 /// Why tables are not opened.
@@ -55,7 +56,7 @@ fn table_text<F: Files>(
     ensures { Opens (F.known files.old) (F.known files.new) (λ all. opening.table_text all place.now name.now) result }
 {
     let Ok(text) = str::from_utf8(name) else {
-        return Err(OpenFault::of(refused(
+        return Err(OpenFault::of(refuse(
             alloc,
             place.file.as_slice(),
             place.line,
@@ -67,7 +68,7 @@ fn table_text<F: Files>(
         return Err(OpenFault::NoMemory);
     };
     match read_all(alloc, files, text) {
-        Ok(None) => Err(OpenFault::of(refused(
+        Ok(None) => Err(OpenFault::of(refuse(
             alloc,
             place.file.as_slice(),
             place.line,
@@ -76,7 +77,7 @@ fn table_text<F: Files>(
         ))),
         Ok(Some(bytes)) => Ok(bytes),
         Err(ReadFault::TooLarge) => {
-            Err(OpenFault::of(refused(alloc, place.file.as_slice(), place.line, Cause::C15, name)))
+            Err(OpenFault::of(refuse(alloc, place.file.as_slice(), place.line, Cause::C15, name)))
         }
         Err(ReadFault::Failed) => Err(OpenFault::Failed { file }),
         Err(ReadFault::NoMemory) => Err(OpenFault::NoMemory),

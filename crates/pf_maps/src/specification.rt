@@ -4,12 +4,12 @@ ghost use Rattle.std.specs.List.{position};
 ghost use Rattle.std.specs.Option.{option_copied};
 ghost use Rattle.pf_base.specs.Text.Ascii as ascii;
 ghost use Rattle.pf_base.specs.Clauses.Unless.{Unless};
-ghost use Rattle.pf_table.specs.Clauses.Faults.{as_fault};
+ghost use Rattle.pf_base.specs.Clauses.Faults.{as_fault};
 ghost use Rattle.pf_maps.specs.Clauses.Adding.{behind, when};
 ghost use Rattle.pf_maps.specs.Specification as naming;
 
-use pf_base::{Bytes, Cause, ConfFault, List, NoMemory, WordsFault, trimmed, words_of};
-use pf_table::{Inline, in_brace, refused};
+use pf_base::{Bytes, Cause, ConfFault, List, NoMemory, WordsFault, refuse, trimmed, words_of};
+use pf_table::{Inline, in_brace};
 use std::alloc::Global;
 
 // How deep unions and pipes may be in one another.
@@ -318,7 +318,7 @@ pub fn spec(alloc: Global, file: &[u8], line: u64, text: &[u8]) -> Result<List<S
 {
     match nodes_of(alloc, text) {
         Err(NoMemory) => Err(ConfFault::NoMemory),
-        Ok(None) => Err(refused(alloc, file, line, Cause::C9, text)),
+        Ok(None) => Err(refuse(alloc, file, line, Cause::C9, text)),
         Ok(Some(nodes)) => Ok(nodes),
     }
 }

@@ -1,6 +1,6 @@
 use Rattle.std.proofs.Common.{Err, ap}
 use Rattle.pf_base.specs.declared.refused.Cause.TheVariants.{C10}
-use Rattle.pf_table.specs.Text.{refused}
+use Rattle.pf_base.specs.Refusal.{refused}
 use Rattle.pf_maps.proofs.OpenLaws.{kept_none, no_name, opens_large, opens_refused, opens_text}
 use Rattle.pf_maps.specs.Opening.{table_text}
 use Rattle.pf_maps.proofs.opening.table_text.Goals as goal
@@ -8,8 +8,8 @@ use Rattle.pf_maps.proofs.opening.table_text.Goals as goal
 pub returns-in_default : goal.returns-in_default
 returns-in_default g c =
     rw c.of.ensures (opens_refused (g.F.Files.known c.args.files.now) (g.F.Files.known c.args.files.now) (λ all. table_text all c.args.place.now c.args.name.now)
-    (refused c.args.place.now.file c.args.place.now.line C10 c.args.name.now) c.refused.result (kept_none (g.F.Files.known c.args.files.now))
-    (rw c.as_slice.ensures at c.refused.ensures) (λ all known. no_name all c.args.place.now c.args.name.now c.in_default.ensures.cases.0))
+    (refused c.args.place.now.file c.args.place.now.line C10 c.args.name.now) c.refuse.result (kept_none (g.F.Files.known c.args.files.now))
+    (rw c.as_slice.ensures at c.refuse.ensures) (λ all known. no_name all c.args.place.now c.args.name.now c.in_default.ensures.cases.0))
 
 pub returns-in-Ok-Some : goal.returns-in-Ok-Some
 returns-in-Ok-Some g c =
@@ -20,7 +20,7 @@ returns-in-Ok-Some g c =
 pub returns-in-Err-TooLarge : goal.returns-in-Err-TooLarge
 returns-in-Err-TooLarge g c =
     rw c.of-in-Err-TooLarge.ensures (opens_large (g.F.Files.known c.args.files.now) (g.F.Files.known c.read_all.new.files) c.args.place.now c.args.name.now
-    c.refused-in-Err-TooLarge.result c.in-Ok.ensures.cases.1
+    c.refuse-in-Err-TooLarge.result c.in-Ok.ensures.cases.1
     (λ all known. rw c.in-Ok.ensures.cases.0 at (c.in-Err-TooLarge.ensures.large all known (ap Err c.in-Err-TooLarge.field-0-is)))
     c.in-Err-TooLarge.ensures.tree.same (c.in-Err-TooLarge.ensures.tree.large (ap Err c.in-Err-TooLarge.field-0-is))
-    (rw c.as_slice-in-Err-TooLarge.ensures at c.refused-in-Err-TooLarge.ensures))
+    (rw c.as_slice-in-Err-TooLarge.ensures at c.refuse-in-Err-TooLarge.ensures))
