@@ -6,7 +6,7 @@ usage: bench/postmap.py [--program PATH] [--small]      (crates/postgate/out/pos
 It wants Debian's packages postfix, postfix-cdb, postfix-pcre, tinycdb and valgrind; nothing of Postfix is started. For each row
 it prints the peer's figure, ours, their ratio and the greatest that this may be, or for a row without a peer our figure and its
 limit. A figure of processor time is the least of a few tries. It looks whether both print the same lines and build the same
-bytes. It ends with 1 where a limit is passed or the answers differ, and with 2 where a tool is not there or fails.
+bytes. It ends with 1 where a limit is passed, the answers differ or a run is refused, and with 2 where a tool is not there.
 """
 import argparse
 import os
@@ -40,6 +40,10 @@ maillog_file_prefixes = {0}
 Run = namedtuple("Run", "cpu resident output")
 
 
+class Failed(Exception):
+    """A run that did not end with 0."""
+
+
 def stop(said):
     print(f"postmap.py: {said}", file=sys.stderr)
     sys.exit(2)
@@ -67,7 +71,7 @@ def run_once(folder, words, keys):
             resident = max(resident, resident_peak(process.pid))
             time.sleep(0.002)
     if os.waitstatus_to_exitcode(status) != 0:
-        stop(f"{' '.join(map(str, words))}: status {os.waitstatus_to_exitcode(status)}")
+        raise Failed(f"{' '.join(words)}: status {os.waitstatus_to_exitcode(status)}")
     return Run(usage.ru_utime + usage.ru_stime, resident, (folder / "output").read_bytes())
 
 
@@ -86,7 +90,7 @@ def instructions(folder, words):
     done = subprocess.run(["valgrind", "--tool=callgrind", f"--callgrind-out-file={counts}", *words], cwd=folder,
                           stdin=subprocess.DEVNULL, capture_output=True, check=False)
     if done.returncode != 0:
-        stop(f"{' '.join(map(str, words))}: {done.stderr[-500:].decode(errors='replace')}")
+        raise Failed(f"{' '.join(words)}: status {done.returncode}")
     summaries = [line for line in counts.read_text(errors="replace").splitlines() if line.startswith("summary: ")]
     if len(summaries) != 1:
         stop("callgrind says no number of instructions")
@@ -120,6 +124,14 @@ class Bench:
 
     def alone(self, what, unit, value, most):
         self.row(what, "", "", f"{value:,.0f}" if value >= 10 else f"{value:.2f}", "", self.said(value <= most, f"{most:,}") + f" {unit}")
+
+    def attempt(self, measure, *given):
+        """Takes a measurement; says so where a run of it fails."""
+        try:
+            measure(*given)
+        except Failed as failed:
+            self.fits = False
+            print(f"FAILED: {failed}", flush=True)
 
     def same(self, what, is_same):
         if not is_same:
@@ -185,7 +197,7 @@ class Bench:
                                          (f"cidr of {NETS} rules", "cidr:nets", "addresses", 1),
                                          (f"cdb of {count} entries", "cdb:built", "keys", 1),
                                          (f"pcre of {PATTERNS} rules", "pcre:patterns", "hosts", 1 / 3)):
-            self.asked(f"-q - {len(asked)} keys, {what}", ["-q", "-", table], lines, most)
+            self.attempt(self.asked, f"-q - {len(asked)} keys, {what}", ["-q", "-", table], lines, most)
 
     # what one key costs, most of which is the start of the program
     def one_key(self):
@@ -195,11 +207,13 @@ class Bench:
                 subprocess.run(self.postfix + ["cdb:one"], cwd=self.folder, check=True)
             for kind in "texthash", "cdb":
                 if (name, kind) != ("built", "texthash"):
-                    words = ["-q", "user0@dom0.example.com", f"{kind}:{name}"]
-                    theirs, ours = instructions(self.folder, self.postfix + words), instructions(self.folder, self.ours + words)
-                    entries = 1 if name == "one" else SIZES[0] // self.small
-                    self.row(f"-q of one key, {kind} of {entries}, instructions", "postmap", f"{theirs:,}", f"{ours:,}",
-                             f"{ours / theirs:.2f}", self.said(ours <= MOST_INSTRUCTIONS, f"{MOST_INSTRUCTIONS:,}"))
+                    self.attempt(self.key, kind, name, 1 if name == "one" else SIZES[0] // self.small)
+
+    def key(self, kind, name, entries):
+        words = ["-q", "user0@dom0.example.com", f"{kind}:{name}"]
+        theirs, ours = instructions(self.folder, self.postfix + words), instructions(self.folder, self.ours + words)
+        self.row(f"-q of one key, {kind} of {entries}, instructions", "postmap", f"{theirs:,}", f"{ours:,}",
+                 f"{ours / theirs:.2f}", self.said(ours <= MOST_INSTRUCTIONS, f"{MOST_INSTRUCTIONS:,}"))
 
     # all pairs are listed
     def lists(self):
@@ -245,13 +259,11 @@ def main():
     with tempfile.TemporaryDirectory() as name:
         os.chmod(name, 0o755)
         bench = Bench(Path(name), asked.program.resolve(), asked.small)
-        bench.text_tables()
-        bench.inputs()
-        bench.one_key()
-        bench.lists()
-        bench.growth("texthash, one key", ["-q", "user0@dom0.example.com", "texthash:table"], lambda lines: bench.pairs("table", lines))
-        bench.growth("building a cdb", ["cdb:table"], lambda lines: bench.pairs("table", lines))
-        bench.builds()
+        for measure in bench.text_tables, bench.inputs, bench.one_key, bench.lists:
+            bench.attempt(measure)
+        for what, words in (("texthash, one key", ["-q", "user0@dom0.example.com", "texthash:table"]), ("building a cdb", ["cdb:table"])):
+            bench.attempt(bench.growth, what, words, lambda lines: bench.pairs("table", lines))
+        bench.attempt(bench.builds)
     return 0 if bench.fits else 1
 
 
