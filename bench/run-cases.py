@@ -3,7 +3,7 @@
 usage: bench/run-cases.py [--program PATH] [FILE..]    (crates/postgate/out/postgate and all of crates/cases/data)
 
 Each run has a folder of its own. Reads of N bytes are packets of a pipe. A read fails from a folder as standard input, a
-write to a full device, a call of the files where main.cf is a folder or no file may grow. What only memory can do is skipped
+write to a full device, a call of the files where what is read is a folder or no file may grow. What only memory can do is skipped
 and counted. It prints a line a file, behind it a line for each difference, and last the counts. It ends with 1 where a run
 differs or can not be made, and with 2 where the program or a case file can not be had, or memory is wanting.
 """
@@ -34,7 +34,7 @@ READ_FAILS, OUTPUT_FAILS = "the Nth read fails", "the Nth write of the output fa
 RECORD_FAILS, LOG_FAILS = "the Nth write of the record fails", "the Nth write of the log fails"
 FILES_FAIL = "the Nth call of the files fails"
 STATUS_OF = {READ_FAILS: 4, OUTPUT_FAILS: 5, RECORD_FAILS: 6, LOG_FAILS: 7, FILES_FAIL: 8}
-LOOKS, REPLACE_CALL = (1, 2), 3        # a main.cf that one read takes is asked for its size and its text, and then replaced
+LOOKS, REPLACE_CALL = (1, 2), 3        # a file that one read takes is asked for its size and its text, and then one is replaced
 ORDINAL = "([0-9]*(?:(?<!1)1st|(?<!1)2nd|(?<!1)3rd|1[123]th|[04-9]th))"
 STATEMENTS = {text: re.compile(text.replace("Nth", ORDINAL).replace("N", "([0-9]+)").encode()) for text in (
     "status N", "reads of N bytes", *STATUS_OF, "only the first N replies", "only the first N log lines",
@@ -265,6 +265,11 @@ def option(words, letter):
     return None
 
 
+def replaces(words):
+    """Whether the words replace a file: by an edit, or by building a table."""
+    return b"-e" in words or words[:1] == [b"postmap"] and not any(re.match(rb"-f?[qs]", word) for word in words)
+
+
 def sink_names(plan):
     """The files of the record and of the log, where the words name them."""
     if plan.words[:1] != [b"smtpd"] or plan.number("status N") == 2:
@@ -285,7 +290,7 @@ def faults(plan):
         raise Skipped(NOT_TAKEN)
     for statement in STATUS_OF:
         numbers = [number for number in plan.numbers.get(statement, []) if number]    # 0 is no call
-        calls = [*LOOKS, *[REPLACE_CALL] * (b"-e" in plan.words)] if statement == FILES_FAIL else [1]
+        calls = [*LOOKS, *[REPLACE_CALL] * replaces(plan.words)] if statement == FILES_FAIL else [1]
         if numbers and numbers not in [[call] for call in calls]:
             raise Skipped(f"only memory can let a call fail behind others: {statement}")
         found.update({statement: number for number in numbers})
@@ -303,7 +308,7 @@ def write_new(room, name, text):
 def place_files(room, plan, failing):
     for name, text in plan.files()[0].items():
         path = write_new(room, name, text)
-        if failing.get(FILES_FAIL) in LOOKS and path.name == "main.cf":
+        if failing.get(FILES_FAIL) in LOOKS and (path.name == "main.cf" or plan.words[:1] == [b"postmap"]):
             path.unlink()
             path.mkdir()
     for name, title, statement in zip(sink_names(plan), (b"record", b"log"), (RECORD_FAILS, LOG_FAILS)):
