@@ -1,59 +1,36 @@
-//! Says the forms of addresses, of the rows of the file `rows`.
+//! Says the forms of addresses, and what lists say of domains and addresses, of the rows of the file `rows`.
 //!
 //! A row asks of an address, written as a path, its standard form (`standard SETTINGS`) or its resolved form (`resolved SETTINGS`),
 //! which ends in ` routed` where it is. SETTINGS are swap_bangpath, allow_percent_hack, append_at_myorigin and
 //! append_dot_mydomain, each `1`, `0` or, where the answer is the same with both, `.`. myorigin is `origin.test`, mydomain is
-//! `my.test`, and the local domains are `example.com`, `Own.Test`, `host.my.test` and `short`.
+//! `my.test`, and the local domains are `example.com`, `Own.Test`, `host.my.test` and `short`. `with DOMAIN` asks for the standard
+//! form with this domain in the place of both, with all four on, and `origin` whether a domain is that of myorigin.
+//!
+//! `local LISTS` asks whether a domain is local, `class LISTS` for its class, `networks LISTS` whether an address is in mynetworks,
+//! `own` whether it is that of an own interface, 192.0.2.1 or 2001:db8::1, and `resolves LISTS` for a resolved form with all four
+//! on. LISTS are those of mydestination, virtual_alias_domains, virtual_mailbox_domains, relay_domains and mynetworks, parted by
+//! semicolons, and a list is its items, parted by spaces: names with commas between them, a net, `table:N`, `file:N`, each maybe
+//! after `!`. `fails:N` among them says that call N on the tables fails. Table 0 has the keys `table.test` and `192.0.2.1`. Table 1
+//! is a list file with `@in.test`, `@sub.in.test` and `10.0.0.1` as `yes`, and `@out.test`, `10.0.0.2` and `in.test` as `no`.
+//! `many NAMES TURNS` asks for a class so many times, where mydestination has so many names, `n0.test`, `n1.test` ..;
+//! bench/names.py measures that.
 #![tactic(auto)]
 
+mod lists;
+mod settings;
+
+use lists::{add_class, add_local, add_many, add_networks, add_own, resolved_text};
 use pf_addr::{Address, Path, PathFault, path, print};
-use pf_base::{Bytes, List, NoMemory};
-use pf_class::{Resolved, Rules};
+use pf_base::{Bytes, NoMemory};
 use row_files::{Says, judge_rows};
+use settings::{SETTINGS, is_meant, rules};
 use std::alloc::Global;
 use std::process::ExitCode;
 
-const LOCAL_DOMAINS: [&[u8]; 4] = [b"example.com", b"Own.Test", b"host.my.test", b"short"];
+const LOCAL_DOMAINS: &str = "example.com,Own.Test host.my.test,short";
 
-// How many settings of four switches there are.
-const SETTINGS: u64 = 16;
-
-// Whether a switch that is set so is as a row says.
-fn is_switched(on: bool, said: u8) -> bool {
-    said == b'.' || (said == b'1') == on
-}
-
-// Whether setting `n`, its switches the bits of a number from the highest, is one that a row speaks of.
-fn is_meant(n: u64, switches: &[u8]) -> bool {
-    match switches {
-        [swap, percent, origin, dot] => {
-            is_switched(n / 8 % 2 == 1, *swap)
-                && is_switched(n / 4 % 2 == 1, *percent)
-                && is_switched(n / 2 % 2 == 1, *origin)
-                && is_switched(n % 2 == 1, *dot)
-        }
-        _ => false,
-    }
-}
-
-fn rules(alloc: Global, n: u64) -> Result<Rules, NoMemory> {
-    Ok(Rules {
-        swap_bangpath: n / 8 % 2 == 1,
-        allow_percent_hack: n / 4 % 2 == 1,
-        append_at_myorigin: n / 2 % 2 == 1,
-        append_dot_mydomain: n % 2 == 1,
-        myorigin: Bytes::from_slice(alloc, b"origin.test")?,
-        mydomain: Bytes::from_slice(alloc, b"my.test")?,
-    })
-}
-
-fn local_domains(alloc: Global) -> Result<List<Bytes>, NoMemory> {
-    let mut names = List::new(alloc);
-    for name in LOCAL_DOMAINS {
-        names.push(Bytes::from_slice(alloc, name)?)?;
-    }
-    Ok(names)
-}
+// The setting of all four switches.
+const ALL: u64 = 15;
 
 // The address of a path, if it is one.
 fn address_of(alloc: Global, text: &str) -> Result<Option<Address>, NoMemory> {
@@ -67,28 +44,13 @@ fn address_of(alloc: Global, text: &str) -> Result<Option<Address>, NoMemory> {
     }
 }
 
-fn standard_text(alloc: Global, rules: &Rules, address: &Address) -> Result<Bytes, NoMemory> {
-    let form = rules.standard(alloc, address)?;
-    print(alloc, &form)
-}
-
-fn resolved_text(alloc: Global, rules: &Rules, address: &Address) -> Result<Bytes, NoMemory> {
-    let names = local_domains(alloc)?;
-    let Resolved { address, routed } = rules.resolve(alloc, &names, address)?;
-    let mut text = print(alloc, &address)?;
-    if routed {
-        text.extend(b" routed")?;
-    }
-    Ok(text)
-}
-
 // A form of an address under setting `n`.
 fn form_text(alloc: Global, n: u64, form: &str, address: &Address) -> Result<Bytes, NoMemory> {
-    let rules = rules(alloc, n)?;
-    match form {
-        "standard" => standard_text(alloc, &rules, address),
-        _ => resolved_text(alloc, &rules, address),
+    if form != "standard" {
+        return resolved_text(alloc, n, LOCAL_DOMAINS, address);
     }
+    let form = rules(alloc, n)?.standard(alloc, address)?;
+    print(alloc, &form)
 }
 
 // Adds a form of an address under all settings that are meant; where it is not the same under each, it is added more than once.
@@ -96,12 +58,12 @@ fn add_form(
     alloc: Global,
     said: &mut Bytes,
     form: &str,
-    switches: &[u8],
+    switches: &str,
     address: &Address,
 ) -> Result<(), NoMemory> {
     let mut last = Bytes::new(alloc);
     for n in 0..SETTINGS {
-        if is_meant(n, switches) {
+        if is_meant(n, switches.as_bytes()) {
             let text = form_text(alloc, n, form, address)?;
             if text != last {
                 said.extend(text.as_slice())?;
@@ -110,6 +72,48 @@ fn add_form(
         }
     }
     Ok(())
+}
+
+// Adds the standard form with another domain.
+fn add_with(
+    alloc: Global,
+    said: &mut Bytes,
+    domain: &str,
+    address: &Address,
+) -> Result<(), NoMemory> {
+    let form = rules(alloc, ALL)?.standard_with(alloc, address, domain.as_bytes())?;
+    let text = print(alloc, &form)?;
+    said.extend(text.as_slice())
+}
+
+// Adds whether a domain is that of myorigin.
+fn add_origin(alloc: Global, said: &mut Bytes, domain: &str) -> Result<(), NoMemory> {
+    if rules(alloc, ALL)?.origin(domain.as_bytes()) {
+        said.extend(b"yes")
+    } else {
+        said.extend(b"no")
+    }
+}
+
+// Adds what is asked of an address.
+fn add_address(
+    alloc: Global,
+    said: &mut Bytes,
+    kind: &str,
+    behind: &str,
+    text: &str,
+) -> Result<(), NoMemory> {
+    let Some(address) = address_of(alloc, text)? else {
+        return said.extend(b"no address");
+    };
+    match kind {
+        "with" => add_with(alloc, said, behind, &address),
+        "resolves" => {
+            let text = resolved_text(alloc, ALL, behind, &address)?;
+            said.extend(text.as_slice())
+        }
+        _ => add_form(alloc, said, kind, behind, &address),
+    }
 }
 
 #[derive(Drop)]
@@ -123,12 +127,18 @@ impl Says for Asked {
         prefix: &str,
         text: &str,
     ) -> Result<(), NoMemory> {
-        let Some((form, switches)) = prefix.split_once(' ') else {
-            return said.extend(b"no such row");
+        let (kind, behind) = match prefix.split_once(' ') {
+            None => (prefix, ""),
+            Some(parts) => parts,
         };
-        match address_of(alloc, text)? {
-            None => said.extend(b"no address"),
-            Some(address) => add_form(alloc, said, form, switches.as_bytes(), &address),
+        match kind {
+            "origin" => add_origin(alloc, said, text),
+            "own" => add_own(alloc, said, text),
+            "local" => add_local(alloc, said, behind, text),
+            "class" => add_class(alloc, said, behind, text),
+            "many" => add_many(alloc, said, behind, text),
+            "networks" => add_networks(alloc, said, behind, text),
+            _ => add_address(alloc, said, kind, behind, text),
         }
     }
 }

@@ -4,7 +4,7 @@ use Rattle.std.specs.Prelude.{◌==◌, ◌&&◌, not, nat_lt}
 use Rattle.std.specs.List.{after_first, after_last, before_first, before_last, position_or_len, suffix_len}
 use Rattle.std.proofs.lemmas.Bool.{and_parts}
 use Rattle.pf_addr.specs.declared.address.Address.{Address}
-use Rattle.pf_class.specs.Resolved.{at_at, goes_on, is_local, split}
+use Rattle.pf_class.specs.Resolved.{at_at, split}
 use Rattle.pf_class.specs.Standard.{address_of, at_bang, at_percent, full_domain, parted, standard, standard_with, user_at, with_domain}
 use Rattle.pf_class.specs.declared.rules.Rules.{Rules}
 
@@ -65,18 +65,12 @@ parted_parts rules local parts h =
     (λ found is. bang_parts local parts (is ∙ rw (on, is) at h)))
     (λ off. percent_rule rules local parts (rw off at h))
 
-split_parts : (rules : Rules) (local : List ℕ) (parts : Address) → split rules local ≡ Some parts → ArePartsOf local parts
+pub split_parts : (rules : Rules) (local : List ℕ) (parts : Address) → split rules local ≡ Some parts → ArePartsOf local parts
 unfolding split
 split_parts rules local parts h =
     either_option (at_at local)
     (λ none. parted_parts rules local parts (rw none at h))
     (λ found is. at_parts local parts (is ∙ rw is at h))
-
--- where an address goes on to, its local part is shorter
-pub goes_on_parts : (rules : Rules) (names : List (List ℕ)) (address parts : Address) → goes_on rules names address ≡ Some parts → ArePartsOf address.local parts
-unfolding goes_on
-goes_on_parts rules names address parts h =
-    either_way (is_local names address.domain) (λ own. split_parts rules address.local parts (rw own at h)) (λ foreign. cc (rw foreign at h))
 
 -- the standard form of an address that has a domain
 pub standard_of : (rules : Rules) (parts : Address) → 0 < length parts.domain

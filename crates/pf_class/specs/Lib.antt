@@ -1,2 +1,7 @@
+pub mod Classes
+pub mod Clauses
+pub mod Local
+pub mod Members
 pub mod Resolved
 pub mod Standard
+pub mod Subjects

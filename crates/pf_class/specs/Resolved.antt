@@ -1,11 +1,15 @@
--- The resolved form of an address (ADDRESS_REWRITING_README; postconf(5), mydestination, swap_bangpath, allow_percent_hack, resolve_dequoted_address).
-use Rattle.std.specs.Prelude.{ℕ, ◌≡◌, ◌==◌, ◌&&◌, ◌||◌, Bool, true, List, Option, Some, None, if◌then◌else◌}
+-- The resolved form of an address (ADDRESS_REWRITING_README; postconf(5), mydestination, swap_bangpath, allow_percent_hack,
+-- resolve_dequoted_address).
+use Rattle.std.specs.Prelude.{ℕ, zero, suc, ◌==◌, ◌&&◌, ◌||◌, Bool, true, false, List, Option, Some, None, length, if◌then◌else◌}
 use Rattle.std.specs.List.{after_last, before_last, list_any}
 use Rattle.std.specs.Option.{option_or}
 use Rattle.pf_base.specs.Text.Ascii as ascii
-use Rattle.pf_base.specs.Text.Names.{same_in_any_case}
 use Rattle.pf_addr.specs.declared.address.Address.{Address}
+use Rattle.pf_asks.specs.Tries.{Try, ok, ◌>>=◌}
+use Rattle.pf_class.specs.Local.{is_local}
 use Rattle.pf_class.specs.Standard.{parted, standard, user_at}
+use Rattle.pf_class.specs.declared.domains.Domains.{Domains}
+use Rattle.pf_class.specs.declared.fault.ClassFault.{ClassFault}
 use Rattle.pf_class.specs.declared.rules.Rules.{Rules}
 use Rattle.pf_class.specs.declared.resolved.Resolved.{Resolved}
 
@@ -26,18 +30,27 @@ holds_operator rules local =
     has_byte ascii.at_sign local || (rules.swap_bangpath && has_byte ascii.exclamation_mark local)
     || (rules.allow_percent_hack && has_byte ascii.percent_sign local)
 
--- a domain is one of the names of mydestination
-abbrev pub is_local : List (List ℕ) → List ℕ → Bool
-is_local names domain = list_any (λ name. same_in_any_case name domain) names
+-- an address that goes on no more is routed where it went on before, or has an operator left
+abbrev pub ends : Domains → Address → Bool → Resolved
+ends domains address routed = record { address = address; routed = routed || holds_operator domains.rules address.local }
 
--- where an address goes on to: the parts of its local part, where its domain is local
-unfoldable pub goes_on : Rules → List (List ℕ) → Address → Option Address
-goes_on rules names address = if is_local names address.domain then split rules address.local else None
+-- an address goes on where an operator parts its local part and its domain is local: its parts in standard form are the address, and it is
+-- routed. Nothing is asked where no operator parts it
+abbrev pub goes_on : (Address → Try ClassFault Resolved) → Domains → Address → Bool → Option Address → Try ClassFault Resolved
+goes_on next domains address routed None = ok (ends domains address routed)
+goes_on next domains address routed (Some parts) = do
+  local ← is_local domains address.domain
+  if local then next (standard domains.rules parts) else ok (ends domains address routed)
 
--- what an address resolves to that has been routed on so far, or not: while it goes on, its parts in standard form are the address, and it is
--- routed; in the end it is routed too if it has an operator left
-pub data IsResolved (rules : Rules) (names : List (List ℕ)) : Address → Bool → Resolved → Type 0 where
-  stays : {address : Address} {routed : Bool} → goes_on rules names address ≡ None
-      → IsResolved rules names address routed (record { address = address; routed = routed || holds_operator rules address.local })
-  goes : {address : Address} {routed : Bool} {result : Resolved} (parts : Address) → goes_on rules names address ≡ Some parts
-      → IsResolved rules names (standard rules parts) true result → IsResolved rules names address routed result
+-- with at most so many steps; each makes the local part shorter, so its length is enough
+unfoldable pub resolved_within : ℕ → Domains → Address → Bool → Try ClassFault Resolved
+resolved_within zero domains address routed = ok (ends domains address routed)
+resolved_within (suc n) domains address routed =
+    goes_on (λ next. resolved_within n domains next true) domains address routed (split domains.rules address.local)
+
+abbrev pub resolved_from : Domains → Address → Bool → Try ClassFault Resolved
+resolved_from domains address routed = resolved_within (length address.local) domains address routed
+
+-- what an address resolves to, from its standard form on
+unfoldable pub resolved : Domains → Address → Try ClassFault Resolved
+resolved domains address = resolved_from domains (standard domains.rules address) false

@@ -1,14 +1,19 @@
 //! The resolved form of addresses (ADDRESS_REWRITING_README).
-ghost use Rattle.std.specs.Prelude.{◌≡◌, false, IfOk};
+ghost use Rattle.std.specs.Prelude.{◌≡◌};
 ghost use Rattle.std.specs.Option.{option_map};
+ghost use Rattle.pf_asks.specs.Looking.{CanFind};
+ghost use Rattle.pf_class.specs.Members.{tables_of};
 ghost use Rattle.pf_class.specs.Resolved as spec;
-ghost use Rattle.pf_class.specs.Resolved.{IsResolved};
-ghost use Rattle.pf_class.specs.Standard.{address_of, standard};
+ghost use Rattle.pf_class.specs.Standard.{address_of};
+ghost use Rattle.pf_class.specs.Clauses.Asking.{IsOrWants, TriesOrWants};
 
+use crate::domains::Domains;
+use crate::fault::ClassFault;
 use crate::parts::at_at;
 use crate::rules::Rules;
 use pf_addr::Address;
-use pf_base::{Bytes, List, NoMemory, same_in_any_case};
+use pf_asks::Lookup;
+use pf_base::Bytes;
 use std::alloc::Global;
 
 /// What an address resolves to, and whether its local part names a further way: it was routed on, or it has an operator left.
@@ -22,15 +27,6 @@ fn has_byte(local: &[u8], byte: u8) -> bool
     ensures { result ≡ spec.has_byte byte local.now }
 {
     local.contains(&byte)
-}
-
-// Whether a domain is one of the names.
-fn is_local(names: &[Bytes], domain: &[u8]) -> bool
-    ensures { result ≡ spec.is_local names.now domain.now }
-{
-    names
-        .iter()
-        .any(|name| same_in_any_case(name.as_slice(), domain))
 }
 
 impl Rules {
@@ -54,54 +50,56 @@ impl Rules {
             || (self.swap_bangpath && has_byte(local, b'!'))
             || (self.allow_percent_hack && has_byte(local, b'%'))
     }
+}
 
-    // Where an address goes on to. An operator is looked for before the domain is.
-    #[tactic(auto, unfolding(crate::specs::Resolved::goes_on))]
-    fn goes_on<'a>(
-        &self,
-        names: &[Bytes],
-        local: &'a [u8],
-        domain: &[u8],
-    ) -> Option<(&'a [u8], &'a [u8])>
-        ensures { option_map (λ parts. address_of parts.0.now parts.1.now) result ≡ spec.goes_on self.now names.now (address_of local.now domain.now) }
-    {
-        let parts = self.split(local)?;
-        if is_local(names, domain) {
-            Some(parts)
-        } else {
-            None
-        }
-    }
-
-    /// What an address resolves to, where these are the names of mydestination (ADDRESS_REWRITING_README): from the standard
-    /// form on, while the domain is local and an operator parts the local part, the parts in standard form are the address.
-    /// The operators are the last `@`, else the first `!` under swap_bangpath, else the last `%` under allow_percent_hack.
-    pub fn resolve(
+impl Domains {
+    // An address that goes on no more.
+    fn ends(
         &self,
         alloc: Global,
-        names: &List<Bytes>,
-        address: &Address,
-    ) -> Result<Resolved, NoMemory>
-        ensures { IfOk result (IsResolved self.now names.now (standard self.now address.now) false) }
+        local: &[u8],
+        domain: Bytes,
+        routed: bool,
+    ) -> Result<Resolved, ClassFault>
+        ensures { IsOrWants result (spec.ends self.now (address_of local.now domain) routed) }
     {
-        let form = self.standard(alloc, address)?;
-        let mut local = form.local.as_slice();
-        let mut domain = form.domain.copy(alloc)?;
-        let mut routed = false;
-        'ways: while let Some((user, site)) = self.goes_on(
-            names.as_slice(),
-            local,
-            domain.as_slice(),
-        ) {
-            local = user;
-            domain = self.full_domain(alloc, site, self.mydomain.as_slice())?;
-            routed = true;
-        }
-        let routed = routed || self.holds_operator(local);
+        let routed = routed || self.rules.holds_operator(local);
         let local = Bytes::from_slice(alloc, local)?;
         Ok(Resolved {
             address: Address { local, domain },
             routed,
         })
+    }
+
+    /// What an address resolves to (ADDRESS_REWRITING_README): from the standard form on, while an operator parts the local part
+    /// and the domain is local, the parts in standard form are the address. The operators are the last `@`, else the first `!`
+    /// under swap_bangpath, else the last `%` under allow_percent_hack. `LookupFailed` comes where a lookup failed.
+    #[tactic(auto, unfolding(crate::specs::Resolved::resolved))]
+    pub fn resolve<T: Lookup>(
+        &self,
+        alloc: Global,
+        address: &Address,
+        tables: &mut T,
+    ) -> Result<Resolved, ClassFault>
+        requires { CanFind (T.tables tables.old) (tables_of self.now.mydestination) }
+        ensures { TriesOrWants (T.tables tables.old) (T.tables tables.new) (spec.resolved self.now address.now) result }
+    {
+        let form = self.rules.standard(alloc, address)?;
+        let mut local = form.local.as_slice();
+        let mut domain = form.domain.copy(alloc)?;
+        let mut routed = false;
+        'ways: while let Some((user, site)) = self.rules.split(local) {
+            let own = self.local(alloc, domain.as_slice(), tables)?;
+            if own {
+                local = user;
+                domain = self
+                    .rules
+                    .full_domain(alloc, site, self.rules.mydomain.as_slice())?;
+                routed = true;
+            } else {
+                return self.ends(alloc, local, domain, routed);
+            }
+        }
+        self.ends(alloc, local, domain, routed)
     }
 }

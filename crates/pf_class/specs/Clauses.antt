@@ -1,0 +1,2 @@
+-- Words of contracts, between the code and the definitions.
+pub mod Asking

@@ -1,0 +1,59 @@
+//! Sets of names.
+ghost use Rattle.std.specs.Prelude.{◌≡◌, [], OnOk};
+ghost use Rattle.pf_base.specs.Text.Names.{folded};
+ghost use Rattle.pf_class.specs.Members as spec;
+
+use indexmap::IndexSet;
+use pf_base::{Bytes, NoMemory, fold};
+use std::alloc::Global;
+use std::marker::Model;
+
+/// Names in small letters, each once.
+#[derive(Drop)]
+pub struct Names {
+    names: IndexSet<Bytes>,
+}
+
+impl Model for Names {
+    ghost use Rattle.std.specs.Prelude.{ℕ, List as Seq};
+
+    ghost Value = { Seq (Seq ℕ) };
+
+    ghost view = { λ names. names.names.keys };
+}
+
+impl Names {
+    /// No names. It takes no memory.
+    pub fn new(alloc: Global) -> Names
+        ensures { result ≡ [] }
+    {
+        Names {
+            names: IndexSet::new(alloc),
+        }
+    }
+
+    // Adds a name that is in small letters.
+    fn put(&mut self, name: Bytes) -> Result<(), NoMemory>
+        ensures { OnOk result (self.new ≡ spec.with_name self.old name) }
+    {
+        match self.names.insert_full(name) {
+            Ok(_) => Ok(()),
+            Err(_) => Err(NoMemory),
+        }
+    }
+
+    /// Adds a name in small letters, where it is not there.
+    pub fn add(&mut self, alloc: Global, name: &[u8]) -> Result<(), NoMemory>
+        ensures { OnOk result (self.new ≡ spec.with_name self.old (folded name.now)) }
+    {
+        let name = fold(alloc, name)?;
+        self.put(name)
+    }
+
+    /// Whether a name in small letters is there.
+    pub fn has(&self, name: &Bytes) -> bool
+        ensures { result ≡ spec.is_among self.now name.now }
+    {
+        self.names.contains(name)
+    }
+}
