@@ -3,15 +3,17 @@
 //!
 //! A row is `FRONT¦TEXT¦SAID`. Where FRONT is `spec`, SAID has what the text names, each node as its type and its name, the
 //! members of a union or a pipe after it, all parted by bars, or the line of the refusal. `file NAME` gives a file of this name
-//! the bytes TEXT, for the rows after it. `find KEY` opens the table of TEXT and asks it for the key; SAID is the value, `none`,
+//! the bytes TEXT, for the rows after it; `cdb NAME` gives it those that pf_cdb writes for pairs `KEY=VALUE` that commas part;
+//! `cut NAME N` the first N bytes of the file TEXT, and `put NAME AT BYTE` those of the file TEXT with this byte at this place. `find KEY` opens the table of TEXT and asks it for the key; SAID is the value, `none`,
 //! `fails`, or the line of the refusal. With `-f` after `find` keys are not folded. `results` asks for the values that the table
 //! may give; SAID is `partial` where it has partial keys, and each value, or `anything`. `open` opens the tables of several texts,
 //! parted by `;`, and SAID is their number. In `failing N` call N on the files fails; SAID is then `failed FILE`. A line feed
-//! is as `␊`. Rows that begin with `# ` are comments.
+//! is as `␊`, a null byte as `␀`. Rows that begin with `# ` are comments.
 #![tactic(auto)]
 
 use pf_asks::{Found, Lookup, Results, TableFault};
 use pf_base::{Bytes, ConfFault, List, MemFiles, NoMemory, Pair, Refused, Specs, TableId, decimal};
+use pf_cdb::write;
 use pf_maps::{OpenFault, SpecNode, Tables, spec};
 use std::alloc::{AllocError, Global};
 use std::io;
@@ -21,9 +23,10 @@ const BAR: &str = "¦";
 // The line of the setting that a row's text would be in.
 const LINE: u64 = 7;
 
-// A row with its line feeds.
+// A row with its line feeds and null bytes.
 fn decoded(alloc: Global, row: &str) -> Result<String, AllocError> {
-    row.replace(alloc, '␊', "\n")
+    let row = row.replace(alloc, '␊', "\n")?;
+    row.as_str().replace(alloc, '␀', "\0")
 }
 
 // Adds a bar and a field.
@@ -48,6 +51,7 @@ fn add_refusal(alloc: Global, said: &mut Bytes, refused: &Refused) -> Result<(),
 fn add_node(alloc: Global, said: &mut Bytes, node: &SpecNode) -> Result<(), NoMemory> {
     match node {
         SpecNode::Text(name) => add_field(said, &[b"texthash ", name.as_slice()]),
+        SpecNode::Cdb(name) => add_field(said, &[b"cdb ", name.as_slice()]),
         SpecNode::Cidr(name) => add_field(said, &[b"cidr ", name.as_slice()]),
         SpecNode::Inline(text) => add_field(said, &[b"inline ", text.as_slice()]),
         SpecNode::Fixed(value) => add_field(said, &[b"static ", value.as_slice()]),
@@ -253,11 +257,93 @@ fn look_at(
     Ok(())
 }
 
-fn add_file(alloc: Global, files: &mut List<Pair>, name: &str, text: &str) -> Result<(), NoMemory> {
+fn add_file(
+    alloc: Global,
+    files: &mut List<Pair>,
+    name: &str,
+    text: &[u8],
+) -> Result<(), NoMemory> {
     files.push(Pair {
         key: Bytes::from_slice(alloc, name.as_bytes())?,
-        value: Bytes::from_slice(alloc, text.as_bytes())?,
+        value: Bytes::from_slice(alloc, text)?,
     })
+}
+
+// The bytes of a file; none where it is not there.
+fn file_of(alloc: Global, files: &List<Pair>, name: &str) -> Result<Bytes, NoMemory> {
+    for file in files.as_slice() {
+        if file.key.as_slice() == name.as_bytes() {
+            return file.value.copy(alloc);
+        }
+    }
+    Ok(Bytes::new(alloc))
+}
+
+// Adds the cdb file of pairs.
+fn add_cdb(alloc: Global, files: &mut List<Pair>, name: &str, text: &str) -> Result<(), NoMemory> {
+    let mut pairs = List::new(alloc);
+    for pair in text.split(',') {
+        if let Some((key, value)) = pair.split_once('=') {
+            add_file(alloc, &mut pairs, key, value.as_bytes())?;
+        }
+    }
+    match write(alloc, &pairs) {
+        Ok(bytes) => add_file(alloc, files, name, bytes.as_slice()),
+        Err(_) => Err(NoMemory),
+    }
+}
+
+// Adds the first bytes of a file.
+fn add_cut(alloc: Global, files: &mut List<Pair>, front: &str, from: &str) -> Result<(), NoMemory> {
+    let (name, count) = front.split_once(' ').unwrap_or((front, ""));
+    let count = count.parse::<usize>().unwrap_or(0);
+    let bytes = file_of(alloc, files, from)?;
+    match bytes.as_slice().get(..count) {
+        None => Ok(()),
+        Some(prefix) => add_file(alloc, files, name, prefix),
+    }
+}
+
+// Adds a file with another byte.
+fn add_put(alloc: Global, files: &mut List<Pair>, front: &str, from: &str) -> Result<(), NoMemory> {
+    let (name, behind) = front.split_once(' ').unwrap_or((front, ""));
+    let (at, byte) = behind.split_once(' ').unwrap_or((behind, ""));
+    let at = at.parse::<u64>().unwrap_or(0);
+    let byte = byte.parse::<u8>().unwrap_or(0);
+    let bytes = file_of(alloc, files, from)?;
+    let mut changed = Bytes::new(alloc);
+    let mut place: u64 = 0;
+    for b in bytes.as_slice() {
+        changed.push(if place == at { byte } else { *b })?;
+        place = place.saturating_add(1);
+    }
+    add_file(alloc, files, name, changed.as_slice())
+}
+
+// Adds the file of a row; false where it has none.
+fn add_row_file(
+    alloc: Global,
+    files: &mut List<Pair>,
+    prefix: &str,
+    text: &str,
+) -> Result<bool, NoMemory> {
+    if let Some(name) = prefix.strip_prefix("file ") {
+        add_file(alloc, files, name, text.as_bytes())?;
+        return Ok(true);
+    }
+    if let Some(name) = prefix.strip_prefix("cdb ") {
+        add_cdb(alloc, files, name, text)?;
+        return Ok(true);
+    }
+    if let Some(front) = prefix.strip_prefix("cut ") {
+        add_cut(alloc, files, front, text)?;
+        return Ok(true);
+    }
+    if let Some(front) = prefix.strip_prefix("put ") {
+        add_put(alloc, files, front, text)?;
+        return Ok(true);
+    }
+    Ok(false)
 }
 
 fn main(rt: HostRuntime) -> io::Result<()> {
@@ -272,16 +358,13 @@ fn main(rt: HostRuntime) -> io::Result<()> {
         let row = decoded(alloc, line.as_str())?;
         let row = row.as_str();
         let (prefix, behind) = row.split_once('¦').unwrap_or((row, ""));
-        match prefix.strip_prefix("file ") {
-            Some(name) => {
-                if let Err(NoMemory) = add_file(alloc, &mut files, name, behind) {
-                    println!(rt; "no memory: {row}")?;
-                }
-            }
-            None => {
+        match add_row_file(alloc, &mut files, prefix, behind) {
+            Ok(true) => {}
+            Ok(false) => {
                 look_at(&rt, alloc, &files, prefix, behind, row)?;
                 rows = rows.saturating_add(1);
             }
+            Err(NoMemory) => println!(rt; "no memory: {row}")?,
         }
     }
     println!(rt; "{rows} rows")

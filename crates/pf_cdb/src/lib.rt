@@ -22,7 +22,7 @@ pub use damage::Damage;
 pub use fault::WriteFault;
 pub use hashing::hash;
 pub use listing::elements;
-pub use opened::CdbFile;
+pub use opened::{CdbFile, ends_in_null, without_null};
 pub use search::find;
 pub use span::Span;
 pub use writer::Writer;

@@ -30,17 +30,17 @@ impl Model for CdbFile {
     ghost invariant = { λ file. IsSound file.bytes };
 }
 
-// Whether a null byte is at the end of a text.
+/// Whether a null byte is at the end of a text.
 #[tactic(auto, unfolding(crate::specs::Asked::ends_in_null))]
-fn ends_in_null(text: &[u8]) -> bool
+pub fn ends_in_null(text: &[u8]) -> bool
     ensures { result ≡ asked.ends_in_null text.now }
 {
     text.len() > 0 && text[text.len() - 1] == 0
 }
 
-// A text without it.
+/// A text without the null byte at its end, if it has one there.
 #[tactic(auto, unfolding(crate::specs::Asked::without_null))]
-fn without_null(text: &[u8]) -> &[u8]
+pub fn without_null(text: &[u8]) -> &[u8]
     ensures { result.now ≡ asked.without_null text.now }
 {
     if ends_in_null(text) {

@@ -1,3 +1,4 @@
+pub mod CdbLaws
 pub mod MeaningLaws
 pub mod OpenLaws
 pub mod Rows

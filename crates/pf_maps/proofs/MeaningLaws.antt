@@ -16,8 +16,10 @@ use Rattle.pf_cidr.specs.Addresses.{address_of}
 use Rattle.pf_cidr.specs.Tables.{Table, first_rule}
 use Rattle.pf_cidr.specs.declared.address.Addr.{Addr}
 use Rattle.pf_table.proofs.ResultLaws.{fail_has_all, keyed_has_all, static_has_all}
+use Rattle.pf_maps.proofs.CdbLaws.{cdb_has_all}
+use Rattle.pf_maps.specs.Cdb.{found_as}
 use Rattle.pf_maps.specs.Clauses.Seen.{meaning_in, values_of}
-use Rattle.pf_maps.specs.Meanings.{address_found, all_partial, cidr_meaning, first_meaning, firsts, found_as, joined, meaning_of, meanings_of, onto, pipe_meaning, pipe_on, pipe_results, pipe_value, union_meaning, union_results, union_value}
+use Rattle.pf_maps.specs.Meanings.{address_found, all_partial, cidr_meaning, first_meaning, firsts, joined, meaning_of, meanings_of, onto, pipe_meaning, pipe_on, pipe_results, pipe_value, union_meaning, union_results, union_value}
 use Rattle.pf_maps.specs.declared.node.Node.{Node}
 use Rattle.pf_maps.specs.declared.node.Node.TheVariants as node
 
@@ -204,6 +206,7 @@ pipe_has_all (member ∷ next ∷ members) all key value is = by (member.value k
 all_have : (nodes : List Node) → AllHave (meanings_of nodes)
 all_have [] = tt
 all_have (node.Text table ∷ nodes) = (keyed_has_all table, all_have nodes)
+all_have (node.Cdb table ∷ nodes) = (cdb_has_all table, all_have nodes)
 all_have (node.Cidr table ∷ nodes) = (nets_have_all table, all_have nodes)
 all_have (node.Inline table ∷ nodes) = (keyed_has_all table, all_have nodes)
 all_have (node.Fixed value ∷ nodes) = (static_has_all value, all_have nodes)

@@ -1,3 +1,4 @@
+pub mod Cdb
 pub mod Clauses
 pub mod Listing
 pub mod Meanings

@@ -12,13 +12,9 @@ use Rattle.pf_cidr.specs.Addresses.{address_of}
 use Rattle.pf_cidr.specs.Tables.{Table, first_rule}
 use Rattle.pf_cidr.specs.declared.address.Addr.{Addr}
 use Rattle.pf_table.specs.Tables.{fail_meaning, keyed_meaning, static_meaning}
+use Rattle.pf_maps.specs.Cdb.{cdb_meaning, found_as}
 use Rattle.pf_maps.specs.declared.node.Node.{Node}
 use Rattle.pf_maps.specs.declared.node.Node.TheVariants as node
-
--- a result, if there is one
-abbrev pub found_as : Option (List ℕ) → Found
-found_as None = Absent
-found_as (Some value) = Value value
 
 -- cidr: the result of the first rule that applies to an address; a key that is none has nothing
 abbrev pub address_found : Table → Option Addr → Found
@@ -92,6 +88,7 @@ firsts (suc count) meanings = first_meaning meanings ∷ firsts count (drop 1 me
 -- what a node means before others, of which a union or a pipe has the first ones as its members
 abbrev pub onto : Node → List Meaning → List Meaning
 onto (node.Text table) behind = keyed_meaning table ∷ behind
+onto (node.Cdb table) behind = cdb_meaning table ∷ behind
 onto (node.Cidr table) behind = cidr_meaning table ∷ behind
 onto (node.Inline table) behind = keyed_meaning table ∷ behind
 onto (node.Fixed value) behind = static_meaning value ∷ behind

@@ -1,5 +1,5 @@
 -- How tables are opened (DATABASE_README): what their texts name, and what their files hold. The refusals and their order are postgate's own.
-use Rattle.std.specs.Prelude.{ℕ, Bool, List, [], ◌∷◌, Option, None, Some, Result, Ok, Err, if◌then◌else◌}
+use Rattle.std.specs.Prelude.{ℕ, ◌++◌, Bool, List, [], ◌∷◌, codes, Option, None, Some, Result, Ok, Err, if◌then◌else◌}
 use Rattle.std.specs.Str.{is_utf8}
 use Rattle.pf_base.specs.Outside.FileList.{file_of, whole_file}
 use Rattle.pf_base.specs.Results.{◌>>=◌}
@@ -13,6 +13,7 @@ use Rattle.pf_cidr.specs.Tables.{table_of}
 use Rattle.pf_table.specs.Inline.{inline_of}
 use Rattle.pf_table.specs.Text.{refused, text_read}
 use Rattle.pf_table.specs.declared.pairs.Repeats.TheVariants.{First}
+use Rattle.pf_maps.specs.Cdb.{cdb_read}
 use Rattle.pf_maps.specs.Specification.{spec_of}
 use Rattle.pf_maps.specs.declared.node.Node.{Node}
 use Rattle.pf_maps.specs.declared.node.Node.TheVariants as node
@@ -34,12 +35,25 @@ bytes_in files name = if is_utf8 name then file_of files name else None
 abbrev pub table_text : List Pair → Place → List ℕ → Result (List ℕ) Refused
 table_text files place name = text_or_refused place name (whole_file (bytes_in files name))
 
--- texthash and cidr: the table of the file's text
+-- texthash, cdb and cidr: the table of the file's text
 abbrev pub text_opened : List Pair → Place → Bool → List ℕ → Result Node Refused
 text_opened files place folds name = do
   text ← table_text files place name
   read ← text_read name folds First text
   Ok (node.Text read.table)
+
+-- the file of `cdb:NAME` is `NAME.cdb`
+abbrev pub cdb_name : List ℕ → List ℕ
+cdb_name name = name ++ codes ".cdb"
+
+abbrev pub cdb_file_opened : List Pair → Place → Bool → List ℕ → Result Node Refused
+cdb_file_opened files place folds file = do
+  bytes ← table_text files place file
+  table ← cdb_read file folds bytes
+  Ok (node.Cdb table)
+
+abbrev pub cdb_opened : List Pair → Place → Bool → List ℕ → Result Node Refused
+cdb_opened files place folds name = cdb_file_opened files place folds (cdb_name name)
 
 abbrev pub cidr_opened : List Pair → Place → List ℕ → Result Node Refused
 cidr_opened files place name = do
@@ -55,6 +69,7 @@ inline_opened place folds text = do
 
 abbrev pub node_opened : List Pair → Place → Bool → SpecNode → Result Node Refused
 node_opened files place folds (spec_node.Text name) = text_opened files place folds name
+node_opened files place folds (spec_node.Cdb name) = cdb_opened files place folds name
 node_opened files place folds (spec_node.Cidr name) = cidr_opened files place name
 node_opened files place folds (spec_node.Inline text) = inline_opened place folds text
 node_opened files place folds (spec_node.Fixed value) = Ok (node.Fixed value)

@@ -23,12 +23,15 @@ abbrev pub braced : List ℕ → Option (List ℕ)
 braced [] = None
 braced (b ∷ text) = if b == ascii.left_brace then in_brace text else None
 
--- `texthash:FILE` and `cidr:FILE`: the name of the file is UTF-8
+-- `texthash:FILE`, `cdb:FILE` and `cidr:FILE`: the name of the file is UTF-8
 abbrev pub file_name : List ℕ → Option (List ℕ)
 file_name name = if is_utf8 name then Some name else None
 
 abbrev pub text_node : List ℕ → Option SpecNode
 text_node name = option_map node.Text (file_name name)
+
+abbrev pub cdb_node : List ℕ → Option SpecNode
+cdb_node name = option_map node.Cdb (file_name name)
 
 abbrev pub cidr_node : List ℕ → Option SpecNode
 cidr_node name = option_map node.Cidr (file_name name)
@@ -54,6 +57,7 @@ fixed_node name = option_map node.Fixed (fixed_value name)
 unfoldable pub leaf : List ℕ → List ℕ → Option SpecNode
 leaf kind name =
     if bytes_eq kind (codes "texthash") then text_node name
+    else if bytes_eq kind (codes "cdb") then cdb_node name
     else if bytes_eq kind (codes "cidr") then cidr_node name
     else if bytes_eq kind (codes "inline") then inline_node name
     else if bytes_eq kind (codes "static") then fixed_node name

@@ -1,6 +1,7 @@
 //! Tables by the texts that name them (DATABASE_README): what a text names, and tables that were opened.
 #![tactic(auto)]
 
+mod cdb_table;
 mod listing;
 mod net_table;
 mod node;
@@ -9,6 +10,6 @@ mod specification;
 mod tables;
 mod walk;
 
-pub use opening::OpenFault;
+pub use opening::{OpenFault, file_text};
 pub use specification::{SpecNode, spec};
 pub use tables::Tables;

@@ -1,4 +1,5 @@
 //! The tables of a specification once they are opened.
+use crate::cdb_table::CdbTable;
 use crate::net_table::NetTable;
 use pf_table::{Inline, StaticTable, TextTable};
 
@@ -6,6 +7,7 @@ use pf_table::{Inline, StaticTable, TextTable};
 #[derive(Drop)]
 pub(crate) enum Node {
     Text(TextTable),
+    Cdb(CdbTable),
     Cidr(NetTable),
     Inline(Inline),
     Fixed(StaticTable),

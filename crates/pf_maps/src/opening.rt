@@ -1,10 +1,12 @@
 //! How tables are opened.
-ghost use Rattle.std.specs.Prelude.{◌≡◌, Ok};
+ghost use Rattle.std.specs.Prelude.{◌≡◌, Ok, IfOk};
+ghost use Rattle.std.specs.Str.{IsUtf8};
 ghost use Rattle.pf_base.specs.Clauses.Unless.{Unless};
 ghost use Rattle.pf_table.specs.Clauses.Faults.{as_fault};
 ghost use Rattle.pf_maps.specs.Clauses.Opened.{Opens, fault_of, held_as};
 ghost use Rattle.pf_maps.specs.Opening as opening;
 
+use crate::cdb_table::CdbTable;
 use crate::net_table::NetTable;
 use crate::node::Node;
 use crate::specification::{SpecNode, spec};
@@ -82,6 +84,27 @@ fn table_text<F: Files>(
     }
 }
 
+/// The text of the file of a table. It is refused as C10 where it is not there, and as C15 where it has more than 64 MiB, with
+/// the file and the line where it is named, and its name. `Failed` comes only where the count of faults of `files` rose by one.
+pub fn file_text<F: Files>(
+    alloc: Global,
+    file: &[u8],
+    line: u64,
+    name: &[u8],
+    files: &mut F,
+) -> Result<Bytes, OpenFault>
+    ensures opens { Opens (F.known files.old) (F.known files.new) (λ all. opening.table_text all (record { file = file.now; line = line }) name.now) result }
+    ensures text { IfOk result (λ text. IsUtf8 name.now) }
+{
+    let Ok(_) = str::from_utf8(name) else {
+        return Err(OpenFault::of(refused(alloc, file, line, Cause::C10, name)));
+    };
+    let Ok(file) = Bytes::from_slice(alloc, file) else {
+        return Err(OpenFault::NoMemory);
+    };
+    table_text(alloc, &Place { file, line }, name, files)
+}
+
 fn open_text<F: Files>(
     alloc: Global,
     place: &Place,
@@ -95,6 +118,47 @@ fn open_text<F: Files>(
     match TextTable::read(alloc, name, text.as_slice(), folded, Repeats::First) {
         Ok(TextRead { table, repeated: _ }) => Ok(Node::Text(table)),
         Err(fault) => Err(OpenFault::of(fault)),
+    }
+}
+
+// The name of the file of `cdb:NAME`.
+fn cdb_name(alloc: Global, name: &[u8]) -> Result<Bytes, NoMemory>
+    ensures { IfOk result (λ file. file ≡ opening.cdb_name name.now) }
+{
+    let mut file = Bytes::from_slice(alloc, name)?;
+    file.extend(b".cdb")?;
+    Ok(file)
+}
+
+// The table of a cdb file with this name.
+fn open_cdb_file<F: Files>(
+    alloc: Global,
+    place: &Place,
+    folded: bool,
+    file: &[u8],
+    files: &mut F,
+) -> Result<Node, OpenFault>
+    ensures { Opens (F.known files.old) (F.known files.new) (λ all. opening.cdb_file_opened all place.now folded file.now) result }
+{
+    let bytes = table_text(alloc, place, file, files)?;
+    match CdbTable::read(alloc, file, bytes, folded) {
+        Ok(table) => Ok(Node::Cdb(table)),
+        Err(fault) => Err(OpenFault::of(fault)),
+    }
+}
+
+fn open_cdb<F: Files>(
+    alloc: Global,
+    place: &Place,
+    folded: bool,
+    name: &[u8],
+    files: &mut F,
+) -> Result<Node, OpenFault>
+    ensures { Opens (F.known files.old) (F.known files.new) (λ all. opening.cdb_opened all place.now folded name.now) result }
+{
+    match cdb_name(alloc, name) {
+        Ok(file) => open_cdb_file(alloc, place, folded, file.as_slice(), files),
+        Err(NoMemory) => Err(OpenFault::NoMemory),
     }
 }
 
@@ -152,6 +216,7 @@ fn open_node<F: Files>(
 {
     match node {
         SpecNode::Text(name) => open_text(alloc, place, folded, name.as_slice(), files),
+        SpecNode::Cdb(name) => open_cdb(alloc, place, folded, name.as_slice(), files),
         SpecNode::Cidr(name) => open_cidr(alloc, place, name.as_slice(), files),
         SpecNode::Inline(text) => held(open_inline(alloc, place, folded, text.as_slice())),
         SpecNode::Fixed(value) => held(open_fixed(alloc, value)),

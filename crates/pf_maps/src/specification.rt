@@ -20,6 +20,8 @@ const LEVELS: u64 = 20;
 pub enum SpecNode {
     /// `texthash:`, with the name of the file.
     Text(Bytes),
+    /// `cdb:`, with the name of the file but for its `.cdb`.
+    Cdb(Bytes),
     /// `cidr:`, with the name of the file.
     Cidr(Bytes),
     /// `inline:`, with the text between its braces.
@@ -94,6 +96,15 @@ fn text_node(alloc: Global, name: &[u8]) -> Result<Option<SpecNode>, NoMemory>
     }
 }
 
+fn cdb_node(alloc: Global, name: &[u8]) -> Result<Option<SpecNode>, NoMemory>
+    ensures { IfOk result (λ node. node ≡ naming.cdb_node name.now) }
+{
+    match file_name(alloc, name)? {
+        None => Ok(None),
+        Some(file) => Ok(Some(SpecNode::Cdb(file))),
+    }
+}
+
 fn cidr_node(alloc: Global, name: &[u8]) -> Result<Option<SpecNode>, NoMemory>
     ensures { IfOk result (λ node. node ≡ naming.cidr_node name.now) }
 {
@@ -160,6 +171,8 @@ fn leaf(alloc: Global, kind: &[u8], name: &[u8]) -> Result<Option<SpecNode>, NoM
 {
     if kind == b"texthash".as_slice() {
         text_node(alloc, name)
+    } else if kind == b"cdb".as_slice() {
+        cdb_node(alloc, name)
     } else if kind == b"cidr".as_slice() {
         cidr_node(alloc, name)
     } else if kind == b"inline".as_slice() {
@@ -295,7 +308,7 @@ fn nodes_of(alloc: Global, text: &[u8]) -> Result<Option<List<SpecNode>>, NoMemo
     }
 }
 
-/// The tables that a text names, the outermost first: `texthash:FILE`, `cidr:FILE`, `inline:{KEY=VALUE ..}`, `static:VALUE` or
+/// The tables that a text names, the outermost first: `texthash:FILE`, `cdb:FILE`, whose file is FILE.cdb, `cidr:FILE`, `inline:{KEY=VALUE ..}`, `static:VALUE` or
 /// `static:{VALUE}`, `fail:NAME`, `unionmap:{TEXT, ..}` and `pipemap:{TEXT, ..}`, whose members are after them in order, each
 /// with its own (DATABASE_README). A text of another type, without a colon, with braces or items that are not of its form, a
 /// file name that is no UTF-8, a union or pipe without members or nested more than 20 deep, is refused as C9, with this file and

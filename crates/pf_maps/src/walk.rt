@@ -113,6 +113,7 @@ pub(crate) fn find_table(alloc: Global, nodes: &[Node], key: &[u8]) -> Result<Fo
     };
     match first {
         Node::Text(table) => table.find(alloc, key),
+        Node::Cdb(table) => table.find(alloc, key),
         Node::Cidr(table) => table.find(alloc, key),
         Node::Inline(table) => table.find(alloc, key),
         Node::Fixed(table) => table.find(alloc, key),
@@ -149,6 +150,7 @@ pub(crate) fn has_partial_keys(nodes: &[Node]) -> bool
     };
     match first {
         Node::Text(table) => table.partial_keys(),
+        Node::Cdb(table) => table.partial_keys(),
         Node::Cidr(table) => table.partial_keys(),
         Node::Inline(table) => table.partial_keys(),
         Node::Fixed(table) => table.partial_keys(),
@@ -193,6 +195,7 @@ pub(crate) fn results_of(alloc: Global, nodes: &[Node]) -> Result<Results, NoMem
     };
     match first {
         Node::Text(table) => table.results(alloc),
+        Node::Cdb(table) => table.results(alloc),
         Node::Cidr(table) => table.results(alloc),
         Node::Inline(table) => table.results(alloc),
         Node::Fixed(table) => table.results(alloc),

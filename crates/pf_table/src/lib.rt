@@ -15,7 +15,7 @@ pub use constant::{FailTable, StaticTable};
 pub use first::find_first;
 pub use inline::{Inline, in_brace};
 pub use memory::FixedLookup;
-pub use pairs::Repeats;
+pub use pairs::{Repeats, kept_key};
 pub use refusal::refused;
 pub use table::Table;
 pub use text::{Repeated, TextRead, TextTable};

@@ -20,7 +20,7 @@ pub enum Repeats {
 }
 
 /// A key as a table keeps it: with small letters where it folds.
-pub(crate) fn kept_key(alloc: Global, folds: bool, key: &[u8]) -> Result<Bytes, NoMemory>
+pub fn kept_key(alloc: Global, folds: bool, key: &[u8]) -> Result<Bytes, NoMemory>
     ensures { IfOk result (λ kept. kept ≡ tables.kept_key folds key.now) }
 {
     if folds {

@@ -7,6 +7,7 @@
 
 use pf_base::{Bytes, ConfFault, NoMemory, decimal};
 use pf_maincf::MainCf;
+use pf_table::Repeats;
 use pf_words::{
     ConfMode, ConfWords, MapJob, MapWords, Shape, SmtpdWords, Words, ipv4_of, octet_of,
     setting_of_word, settings_of_words, sink_names, words_of,
@@ -94,6 +95,13 @@ fn add_postconf(said: &mut Bytes, words: &ConfWords) -> Result<(), NoMemory> {
 
 fn add_job(said: &mut Bytes, job: &MapJob) -> Result<(), NoMemory> {
     match job {
+        MapJob::Build(repeats, warned) => {
+            said.extend(match repeats {
+                Repeats::First => b" first".as_slice(),
+                Repeats::Last => b" last".as_slice(),
+            })?;
+            said.extend(if *warned { b" warned".as_slice() } else { b"".as_slice() })
+        }
         MapJob::Query(key) => said.extend_all(&[b" <", key.as_slice(), b">"]),
         MapJob::QueryInput => said.extend(b" keys"),
         MapJob::Elements => said.extend(b" pairs"),
