@@ -1,6 +1,7 @@
 //! Tables in cdb files that are asked for keys (cdb(5), postmap(1)).
-ghost use Rattle.std.specs.Prelude.{◌≡◌, ◌++◌, flat_map, IfOk, OnOk};
+ghost use Rattle.std.specs.Prelude.{◌≡◌, ◌++◌, flat_map, map, IfOk, OnOk};
 ghost use Rattle.pf_base.specs.Clauses.Unless.{Unless};
+ghost use Rattle.pf_cdb.specs.Asked.{listed_pair};
 ghost use Rattle.pf_cdb.specs.Held.{elements_of};
 ghost use Rattle.pf_base.specs.Clauses.Faults.{as_fault};
 ghost use Rattle.pf_maps.specs.Cdb as cdb;
@@ -79,6 +80,13 @@ impl CdbTable {
             add_values(alloc, pair, &mut values)?;
         }
         Ok(values)
+    }
+
+    /// Its pairs as they are listed.
+    pub(crate) fn listed(&self, alloc: Global) -> Result<List<Pair>, NoMemory>
+        ensures { IfOk result (λ pairs. pairs ≡ map listed_pair (elements_of self.now.file)) }
+    {
+        self.file.listed(alloc)
     }
 
     // The value of a key as it is kept.

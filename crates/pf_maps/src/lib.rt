@@ -10,6 +10,6 @@ mod specification;
 mod tables;
 mod walk;
 
-pub use opening::OpenFault;
+pub use opening::{OpenFault, file_text};
 pub use specification::{SpecNode, spec};
 pub use tables::Tables;

@@ -1,5 +1,6 @@
 //! How tables are opened.
 ghost use Rattle.std.specs.Prelude.{◌≡◌, Ok, IfOk};
+ghost use Rattle.std.specs.Str.{IsUtf8};
 ghost use Rattle.pf_base.specs.Clauses.Unless.{Unless};
 ghost use Rattle.pf_base.specs.Clauses.Faults.{as_fault};
 ghost use Rattle.pf_maps.specs.Clauses.Opened.{Opens, fault_of, held_as};
@@ -82,6 +83,27 @@ fn table_text<F: Files>(
         Err(ReadFault::Failed) => Err(OpenFault::Failed { file }),
         Err(ReadFault::NoMemory) => Err(OpenFault::NoMemory),
     }
+}
+
+/// The text of the file of a table. It is refused as C10 where it is not there, and as C15 where it has more than 64 MiB, with
+/// the file and the line where it is named, and its name. `Failed` comes only where the count of faults of `files` rose by one.
+pub fn file_text<F: Files>(
+    alloc: Global,
+    file: &[u8],
+    line: u64,
+    name: &[u8],
+    files: &mut F,
+) -> Result<Bytes, OpenFault>
+    ensures opens { Opens (F.known files.old) (F.known files.new) (λ all. opening.table_text all (record { file = file.now; line = line }) name.now) result }
+    ensures text { IfOk result (λ text. IsUtf8 name.now) }
+{
+    let Ok(_) = str::from_utf8(name) else {
+        return Err(OpenFault::of(refuse(alloc, file, line, Cause::C10, name)));
+    };
+    let Ok(file) = Bytes::from_slice(alloc, file) else {
+        return Err(OpenFault::NoMemory);
+    };
+    table_text(alloc, &Place { file, line }, name, files)
 }
 
 fn open_text<F: Files>(

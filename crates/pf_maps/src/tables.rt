@@ -54,7 +54,7 @@ impl Tables {
         self.tables.len()
     }
 
-    /// The pairs of a text table or an inline table in their order, the keys as they are compared; of another table none
+    /// The pairs of a text table, an inline table or a cdb in their order, the keys as they are compared; of another table none
     /// (postmap(1), -s). It is no lookup.
     pub fn pairs(&self, alloc: Global, id: TableId) -> Result<List<Pair>, NoMemory>
         requires { id.0 < length self.now.tables }

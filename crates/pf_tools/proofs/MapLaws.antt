@@ -1,10 +1,12 @@
 -- A run of postmap by its course.
 use Rattle.std.proofs.Common.{◌≡◌, ℕ, Bool, true, false, List, [], ◌∷◌, Option, None, Some, Result, Ok, Err, inl, inr, refl, sym, ap, subst, ◌∙◌}
-use Rattle.std.specs.Prelude.{⊤, slice_get}
+use Rattle.std.specs.Option.{option_map}
+use Rattle.std.specs.Prelude.{⊤, ◌⊎◌, slice_get}
 use Rattle.pf_base.proofs.KnownLemmas.{stops_first, wrote_none}
 use Rattle.pf_base.proofs.StatusLemmas.{counts_same, kept_causes, none_failed, none_stopped, said_causes, said_record, spoken, starved_causes, stops_causes, stops_record}
 use Rattle.pf_base.specs.Outside.Counts.{counted}
-use Rattle.pf_base.specs.Outside.Known.{wrote}
+use Rattle.pf_base.specs.Outside.FileList.{with_file}
+use Rattle.pf_base.specs.Outside.Known.{Tree, failed_tree, replaced, wrote}
 use Rattle.pf_base.specs.Outside.Objects.{Objects, Says, Sinks, StopsBy, Streams, log_text, out_text, sink_status, status_of}
 use Rattle.pf_base.specs.Outside.Statuses.{HasCauses, NoneRose, counts_of, is_among}
 use Rattle.pf_base.specs.Results.{◌>>=◌}
@@ -15,20 +17,24 @@ use Rattle.pf_base.specs.declared.outside.texts.SinkFault.{SinkFault}
 use Rattle.pf_base.specs.declared.outside.texts.SinkFault.TheVariants as sink
 use Rattle.pf_base.specs.declared.outside.texts.Texts.{Texts}
 use Rattle.pf_asks.specs.Looking.{Meaning}
+use Rattle.pf_maincf.specs.File.{Kept}
 use Rattle.pf_maps.specs.Clauses.Opened.{Opens}
 use Rattle.pf_maps.specs.Clauses.Seen.{OpenTables, listed, meaning_in, opened}
 use Rattle.pf_maps.specs.Opening.{tables_opened}
 use Rattle.pf_maps.specs.declared.node.Node.{Node}
 use Rattle.pf_maps.specs.declared.opening.OpenFault.{OpenFault}
 use Rattle.pf_maps.specs.declared.opening.OpenFault.TheVariants as open_fault
-use Rattle.pf_tools.specs.Clauses.Opened.{Ends, SaysUnopened, value_in}
-use Rattle.pf_tools.specs.Map.Course.{Course, Leaves, Took, course_status, ended_status, keys_status, value_status}
+use Rattle.pf_table.specs.declared.pairs.Repeats.{Repeats}
+use Rattle.pf_tools.specs.Clauses.Opened.{Ends, IsPut, SaysUnopened, value_in}
+use Rattle.pf_tools.specs.Map.Built.{built_in, cdb_name}
+use Rattle.pf_tools.specs.Map.Course.{Course, IsTask, Leaves, Took, course_status, ended_status, keys_status, value_status}
 use Rattle.pf_tools.specs.Map.Course.{Course as course}
 use Rattle.pf_tools.specs.Map.Keys.{Answers, answered, keys_of, last_key, whole_keys}
 use Rattle.pf_tools.specs.Map.Lines.{key_lines, pair_lines, value_at, value_line}
 use Rattle.pf_tools.specs.Map.Run.{PostmapRun, statuses, statuses_by}
-use Rattle.pf_tools.specs.Map.Said.{Task, is_of, specs_of, table_in, task_in, task_with}
+use Rattle.pf_tools.specs.Map.Said.{Task, is_of, specs_of, table_in, task_by, task_in}
 use Rattle.pf_tools.specs.Map.Said.{Task as task}
+use Rattle.pf_tools.specs.declared.map.build.Built.{Built}
 use Rattle.pf_tools.specs.declared.map.keys.Ended.{Ended}
 use Rattle.pf_tools.specs.declared.map.keys.Ended.TheVariants as ended
 use Rattle.pf_tools.specs.declared.map.keys.KeysFault.{KeysFault}
@@ -111,6 +117,7 @@ keys_known m budget before now (Err (fault.Sink why)) (inr t) = stops_known why 
 
 -- memory may be wanting whatever there is to do
 memory_is_free : (answer : Result Task Refused) → is_among (statuses_by answer) NO_MEMORY ≡ true
+memory_is_free (Ok (task.builds built)) = refl
 memory_is_free (Ok (task.answers value)) = by_value (λ s. is_among (s ∷ NO_MEMORY ∷ []) NO_MEMORY ≡ true) refl refl value
 memory_is_free (Ok (task.serves meaning)) = refl
 memory_is_free (Ok (task.lists pairs)) = refl
@@ -118,14 +125,19 @@ memory_is_free (Err refusal) = refl
 
 module _ (words : MapWords) (before now : Objects) where
   course_record : (c : Course) → Leaves words before now c → now.streams.sinks.mail ≡ before.streams.sinks.mail
+  course_record (course.builds built said) left = said_record before.streams.sinks now.streams.sinks (log_text _) said refl left.2.says
+  course_record (course.unreplaced built said) left = said_record before.streams.sinks now.streams.sinks (log_text _) said refl left.2.says
   course_record (course.answers value said) left = said_record before.streams.sinks now.streams.sinks (out_text _) said refl left.2.says
   course_record (course.serves meaning result) left = keys_record meaning words.budget before.streams now.streams result left.2
   course_record (course.lists pairs said) left = said_record before.streams.sinks now.streams.sinks (out_text _) said refl left.2.says
   course_record (course.refuses refusal said) left = said_record before.streams.sinks now.streams.sinks (log_text _) said refl left.2.says
   course_record (course.unread file said) left = said_record before.streams.sinks now.streams.sinks (log_text _) said refl left.1.says
   course_record course.starves left = ap (λ s. s.sinks.mail) left.1
+  course_record (course.starves_building built) left = ap (λ s. s.sinks.mail) left.2
 
   course_known : (c : Course) → Leaves words before now c → is_among statuses (course_status c) ≡ true
+  course_known (course.builds built said) left = said_known DONE said _ _ (log_text _) refl left.2.says refl
+  course_known (course.unreplaced built said) left = said_known FILES_FAILED said _ _ (log_text _) refl left.2.says refl
   course_known (course.answers value said) left =
       said_known (value_status value) said _ _ (out_text _) refl left.2.says (by_value (λ s. is_among statuses s ≡ true) refl refl value)
   course_known (course.serves meaning result) left = keys_known meaning words.budget before.streams now.streams result left.2
@@ -133,8 +145,24 @@ module _ (words : MapWords) (before now : Objects) where
   course_known (course.refuses refusal said) left = said_known REFUSED said _ _ (log_text _) refl left.2.says refl
   course_known (course.unread file said) left = said_known FILES_FAILED said _ _ (log_text _) refl left.1.says refl
   course_known course.starves left = refl
+  course_known (course.starves_building built) left = refl
+
+  -- where a cdb could not be put in its place, a call on the files failed just once
+  failed_once : {built : Tree} → Kept (failed_tree before.files) now.files ⊎ Kept (failed_tree built) now.files → built.faults ≡ before.files.faults
+      → now.files.faults ≡ counted before.files.faults
+  failed_once (inl kept) same = kept.1
+  failed_once (inr kept) same = kept.1 ∙ ap counted same
+
+  kept_faults : {built : Tree} → Kept before.files now.files ⊎ Kept built now.files → built.faults ≡ before.files.faults → now.files.faults ≡ before.files.faults
+  kept_faults (inl kept) same = kept.1
+  kept_faults (inr kept) same = kept.1 ∙ same
 
   course_causes : (c : Course) → Leaves words before now c → HasCauses (counts_of before) (counts_of now) (course_status c)
+  course_causes (course.builds built said) left = said_causes before now DONE said (log_text _) left.2.input left.2.says refl
+      (record { once = inl left.1.1; failed = λ is. cc; kept = λ is. left.1.1 })
+  course_causes (course.unreplaced built said) left =
+      let failed = failed_once left.1 refl in
+      said_causes before now FILES_FAILED said (log_text _) left.2.input left.2.says refl (record { once = inr failed; failed = λ is. failed; kept = λ is. cc })
   course_causes (course.answers value said) left =
       said_causes before now (value_status value) said (out_text _) left.2.input left.2.says (by_value (λ s. is_among spoken s ≡ true) refl refl value)
       (record { once = inl left.1.1; failed = λ is. absurd (by_value (λ s. s ≡ FILES_FAILED → ⊥) (λ e. cc) (λ e. cc) value is); kept = λ is. left.1.1 })
@@ -148,6 +176,9 @@ module _ (words : MapWords) (before now : Objects) where
   course_causes course.starves left =
       starved_causes (counts_of before) (counts_of now) (ap (λ s. s.input.faults) left.1) (ap (λ s. s.sinks.out.faults) left.1)
       (ap (λ s. s.sinks.mail.faults) left.1) (ap (λ s. s.sinks.log.faults) left.1) (inl left.0.1)
+  course_causes (course.starves_building built) left =
+      starved_causes (counts_of before) (counts_of now) (ap (λ s. s.input.faults) left.2) (ap (λ s. s.sinks.out.faults) left.2)
+      (ap (λ s. s.sinks.mail.faults) left.2) (ap (λ s. s.sinks.log.faults) left.2) (inl (kept_faults left.1 refl))
 
   -- where no call failed, the status is that of what there is to do
   module _ (status : ℕ) (causes : HasCauses (counts_of before) (counts_of now) status) (files : List Pair) (known : before.files.content ≡ Some files)
@@ -159,6 +190,10 @@ module _ (words : MapWords) (before now : Objects) where
     stopped why is = rw (none_stopped why is causes none) (memory_is_free (task_in words files))
 
     completes : (c : Course) → Leaves words before now c → status ≡ course_status c → Completes
+    completes (course.builds built (Ok x)) left is = rw (is, left.0.known files known) refl
+    completes (course.builds built (Err why)) left is = stopped why is
+    completes (course.unreplaced built (Ok x)) left is = absurd (none.files (causes.files is))
+    completes (course.unreplaced built (Err why)) left is = stopped why is
     completes (course.answers value (Ok x)) left is =
         rw (is, left.0.known files known) (by_value (λ s. is_among (s ∷ NO_MEMORY ∷ []) s ≡ true) refl refl value)
     completes (course.answers value (Err why)) left is = stopped why is
@@ -173,6 +208,7 @@ module _ (words : MapWords) (before now : Objects) where
     completes (course.unread file (Ok x)) left is = absurd (none.files (causes.files is))
     completes (course.unread file (Err why)) left is = stopped why is
     completes course.starves left is = rw is (memory_is_free (task_in words files))
+    completes (course.starves_building built) left is = rw is (memory_is_free (task_in words files))
 
 -- a run that took a course
 pub took_postmap : {words : MapWords} {before now : Objects} {status : ℕ} → Took words before now status → PostmapRun words before now status
@@ -187,87 +223,156 @@ took_postmap {words} {before} {now} {status} took =
       complete = λ files known none. completes words before now status causes files known none c took.leaves took.status_is;
     }
 
--- what there is to do, where a table was opened
+-- what there is to do with a table that was opened
 module _ (words : MapWords) (before now : Objects) where
   abbrev Opening : Result OpenTables OpenFault → Type 0
   Opening result = Opens before.files now.files (λ all. opened (tables_opened all words.folded (specs_of words.table))) result
 
-  task_is : (tables : OpenTables) (answer : Result (List (List Node)) Refused) → opened answer ≡ Ok tables
-      → ((answer >>= (λ tables. Ok (slice_get tables 0))) >>= (λ table. Ok (task_with words.job table))) ≡ Ok (task_with words.job (slice_get tables.tables 0))
-  task_is tables (Ok all) is = ap (λ (t : Result OpenTables Refused). t >>= (λ t. Ok (task_with words.job (slice_get t.tables 0)))) is
-  task_is tables (Err refusal) is = cc
+  with_table : (f : Option (List Node) → Task) (tables : OpenTables) (answer : Result (List (List Node)) Refused) → opened answer ≡ Ok tables
+      → ((answer >>= (λ tables. Ok (slice_get tables 0))) >>= (λ table. Ok (f table))) ≡ Ok (f (slice_get tables.tables 0))
+  with_table f tables (Ok all) is = ap (λ (t : Result OpenTables Refused). t >>= (λ t. Ok (f (slice_get t.tables 0)))) is
+  with_table f tables (Err refusal) is = cc
 
-  task_refused : (refusal : Refused) (answer : Result (List (List Node)) Refused) → opened answer ≡ Err refusal
-      → ((answer >>= (λ tables. Ok (slice_get tables 0))) >>= (λ table. Ok (task_with words.job table))) ≡ Err refusal
-  task_refused refusal (Ok all) is = cc
-  task_refused refusal (Err why) is = ap Err (cc is)
+  without_table : (f : Option (List Node) → Task) (refusal : Refused) (answer : Result (List (List Node)) Refused) → opened answer ≡ Err refusal
+      → ((answer >>= (λ tables. Ok (slice_get tables 0))) >>= (λ table. Ok (f table))) ≡ Err refusal
+  without_table f refusal (Ok all) is = cc
+  without_table f refusal (Err why) is = ap Err (cc is)
 
-  module _ (tables : OpenTables) (opens : Opening (Ok tables)) (same : now.streams.input ≡ before.streams.input) where
-    abbrev table : Option (List Node)
-    table = slice_get tables.tables 0
+  -- a job that is no build
+  abbrev pub Asks : MapJob → (Option (List Node) → Task) → Type 0
+  Asks j f = (files : List Pair) → task_by j words files ≡ (table_in words files >>= (λ table. Ok (f table)))
 
-    known : (files : List Pair) → before.files.content ≡ Some files → task_in words files ≡ Ok (task_with words.job table)
-    known files is = task_is tables (tables_opened files words.folded (specs_of words.table)) (opens.known files is)
+  module _ (f : Option (List Node) → Task) (j : MapJob) (is : words.job ≡ j) (asks : Asks j f) where
+    task_is : (tables : OpenTables) → Opening (Ok tables) → is_of j (f (slice_get tables.tables 0)) ≡ true → IsTask words before (f (slice_get tables.tables 0))
+    task_is tables opens own = record {
+      known = λ files known. ap (λ j. task_by j words files) is ∙ asks files ∙ with_table f tables (tables_opened files words.folded (specs_of words.table)) (opens.known files known);
+      asked = ap (λ j. is_of j (f (slice_get tables.tables 0))) is ∙ own;
+    }
 
-    pub took_query : (key : List ℕ) {status : ℕ} → words.job ≡ job.Query key
-        → Ends before.streams.sinks now.streams.sinks (out_text (value_line (value_in tables key))) (value_status (value_in tables key)) status → Took words before now status
-    took_query key job_is ends = record {
-      course = course.answers (value_in tables key) ends.said;
+    pub took_unopened : (why : OpenFault) {status : ℕ} → Opening (Err why) → SaysUnopened before.streams.sinks now.streams.sinks why status
+        → now.streams.input ≡ before.streams.input → Took words before now status
+    took_unopened (open_fault.Refused refusal) opens ends same = record {
+      course = course.refuses refusal ends.said;
       status_is = ends.is;
       leaves = (
-        record { known = λ files is. known files is ∙ ap (λ j. Ok (task_with j table)) job_is; asked = ap (λ j. is_of j (task.answers (value_in tables key))) job_is },
+        λ files known. ap (λ j. task_by j words files) is ∙ asks files ∙ without_table f refusal (tables_opened files words.folded (specs_of words.table)) (opens.known files known),
         opens.leaves,
         record { says = ends.says; input = same },
       );
     }
-
-    pub took_elements : {status : ℕ} → words.job ≡ job.Elements
-        → Ends before.streams.sinks now.streams.sinks (out_text (pair_lines (listed table))) DONE status → Took words before now status
-    took_elements job_is ends = record {
-      course = course.lists (listed table) ends.said;
+    took_unopened (open_fault.Failed file) opens ends same = record {
+      course = course.unread file ends.said;
       status_is = ends.is;
-      leaves = (
-        record { known = λ files is. known files is ∙ ap (λ j. Ok (task_with j table)) job_is; asked = ap (λ j. is_of j (task.lists (listed table))) job_is },
-        opens.leaves,
-        record { says = ends.says; input = same },
-      );
+      leaves = (opens.leaves, record { says = ends.says; input = same });
     }
+    took_unopened open_fault.NoMemory opens ends same = record {
+      course = course.starves;
+      status_is = ends.1;
+      leaves = (opens.leaves, rw (same, ends.0) refl);
+    }
+
+  pub took_query : (key : List ℕ) {status : ℕ} (tables : OpenTables) → Opening (Ok tables) → now.streams.input ≡ before.streams.input → words.job ≡ job.Query key
+      → Ends before.streams.sinks now.streams.sinks (out_text (value_line (value_in tables key))) (value_status (value_in tables key)) status → Took words before now status
+  took_query key tables opens same is ends = record {
+    course = course.answers (value_in tables key) ends.said;
+    status_is = ends.is;
+    leaves = (task_is (λ table. task.answers (value_at (meaning_in table) key)) (job.Query key) is (λ files. refl) tables opens refl, opens.leaves, record { says = ends.says; input = same });
+  }
+
+  pub took_elements : {status : ℕ} (tables : OpenTables) → Opening (Ok tables) → now.streams.input ≡ before.streams.input → words.job ≡ job.Elements
+      → Ends before.streams.sinks now.streams.sinks (out_text (pair_lines (listed (slice_get tables.tables 0)))) DONE status → Took words before now status
+  took_elements tables opens same is ends = record {
+    course = course.lists (listed (slice_get tables.tables 0)) ends.said;
+    status_is = ends.is;
+    leaves = (task_is (λ table. task.lists (listed table)) job.Elements is (λ files. refl) tables opens refl, opens.leaves, record { says = ends.says; input = same });
+  }
 
   pub took_keys : (tables : OpenTables) → Opening (Ok tables) → (result : Result Ended KeysFault) {status : ℕ} → words.job ≡ job.QueryInput → status ≡ keys_status result
       → Answers (meaning_in (slice_get tables.tables 0)) words.budget before.streams now.streams result → Took words before now status
-  took_keys tables opens result job_is is answers =
-      let meaning = meaning_in (slice_get tables.tables 0) in
-      record {
-        course = course.serves meaning result;
-        status_is = is;
-        leaves = (
-          record {
-            known = λ files is. task_is tables (tables_opened files words.folded (specs_of words.table)) (opens.known files is) ∙ ap (λ j. Ok (task_with j (slice_get tables.tables 0))) job_is;
-            asked = ap (λ j. is_of j (task.serves meaning)) job_is;
-          },
-          opens.leaves,
-          answers,
-        );
-      }
+  took_keys tables opens result is status_is answers = record {
+    course = course.serves (meaning_in (slice_get tables.tables 0)) result;
+    status_is = status_is;
+    leaves = (task_is (λ table. task.serves (meaning_in table)) job.QueryInput is (λ files. refl) tables opens refl, opens.leaves, answers);
+  }
 
-  pub took_unopened : (why : OpenFault) {status : ℕ} → Opening (Err why) → SaysUnopened before.streams.sinks now.streams.sinks why status
-      → now.streams.input ≡ before.streams.input → Took words before now status
-  took_unopened (open_fault.Refused refusal) opens ends same = record {
+-- what there is to do where a cdb is built
+module _ (words : MapWords) (repeats : Repeats) (warned : Bool) (is : words.job ≡ job.Build repeats warned) where
+  abbrev Building : Objects → Tree → Result Built OpenFault → Type 0
+  Building before mid result = Opens before.files mid (λ all. built_in words.table words.folded repeats warned all) result
+
+  build_is : (before : Objects) (mid : Tree) (built : Built) → Building before mid (Ok built) → IsTask words before (task.builds built)
+  build_is before mid built builds = record {
+    known = λ files known. ap (λ j. task_by j words files) is ∙ ap (λ (b : Result Built Refused). b >>= (λ b. Ok (task.builds b))) (builds.known files known);
+    asked = ap (λ j. is_of j (task.builds built)) is;
+  }
+
+  pub took_unbuilt : (before now : Objects) (why : OpenFault) {status : ℕ} → Building before now.files (Err why)
+      → SaysUnopened before.streams.sinks now.streams.sinks why status → now.streams.input ≡ before.streams.input → Took words before now status
+  took_unbuilt before now (open_fault.Refused refusal) builds ends same = record {
     course = course.refuses refusal ends.said;
     status_is = ends.is;
     leaves = (
-      λ files is. task_refused refusal (tables_opened files words.folded (specs_of words.table)) (opens.known files is),
-      opens.leaves,
+      λ files known. ap (λ j. task_by j words files) is ∙ ap (λ (b : Result Built Refused). b >>= (λ b. Ok (task.builds b))) (builds.known files known),
+      builds.leaves,
       record { says = ends.says; input = same },
     );
   }
-  took_unopened (open_fault.Failed file) opens ends same = record {
+  took_unbuilt before now (open_fault.Failed file) builds ends same = record {
     course = course.unread file ends.said;
     status_is = ends.is;
-    leaves = (opens.leaves, record { says = ends.says; input = same });
+    leaves = (builds.leaves, record { says = ends.says; input = same });
   }
-  took_unopened open_fault.NoMemory opens ends same = record {
+  took_unbuilt before now open_fault.NoMemory builds ends same = record {
     course = course.starves;
     status_is = ends.1;
-    leaves = (opens.leaves, rw (same, ends.0) refl);
+    leaves = (builds.leaves, rw (same, ends.0) refl);
   }
+
+  -- the cdb was put in its place, or not, after the text was read
+  abbrev put : Built → Tree → Tree
+  put built tree = replaced (cdb_name words.table) built.bytes tree
+
+  put_kept : (built : Built) (x y : Tree) → Kept x y → Kept (put built x) (put built y)
+  put_kept built x y kept = (ap (λ c. option_map (λ files. with_file files (cdb_name words.table) built.bytes) c) kept.0, kept.1)
+
+  failed_kept : (x y : Tree) → Kept x y → Kept (failed_tree x) (failed_tree y)
+  failed_kept x y kept = (kept.0, ap counted kept.1)
+
+  after_kept : (x y now : Tree) → Kept x y → now ≡ y → Kept x now
+  after_kept x y now kept is = (ap (λ (t : Tree). t.content) is ∙ kept.0, ap (λ (t : Tree). t.faults) is ∙ kept.1)
+
+  failed_after : (built : Built) (before mid now : Tree) → Kept before mid → (now ≡ failed_tree mid) ⊎ (now ≡ failed_tree (put built mid))
+      → Kept (failed_tree before) now ⊎ Kept (failed_tree (put built before)) now
+  failed_after built before mid now read (inl is) = inl (after_kept (failed_tree before) (failed_tree mid) now (failed_kept before mid read) is)
+  failed_after built before mid now read (inr is) =
+      inr (after_kept (failed_tree (put built before)) (failed_tree (put built mid)) now (failed_kept (put built before) (put built mid) (put_kept built before mid read)) is)
+
+  starved_after : (built : Built) (before mid now : Tree) → Kept before mid → (now ≡ mid) ⊎ (now ≡ put built mid) → Kept before now ⊎ Kept (put built before) now
+  starved_after built before mid now read (inl is) = inl (after_kept before mid now read is)
+  starved_after built before mid now read (inr is) = inr (after_kept (put built before) (put built mid) now (put_kept built before mid read) is)
+
+  pub took_put : (before now : Objects) (mid : Tree) (built : Built) {status : ℕ} → Building before mid (Ok built) → now.streams.input ≡ before.streams.input
+      → IsPut (cdb_name words.table) built mid now.files before.streams.sinks now.streams.sinks status → Took words before now status
+  took_put before now mid built builds same (inl done) = record {
+    course = course.builds built done.1.said;
+    status_is = done.1.is;
+    leaves = (
+      build_is before mid built builds,
+      after_kept (put built before.files) (put built mid) now.files (put_kept built before.files mid builds.leaves) done.0,
+      record { says = done.1.says; input = same },
+    );
+  }
+  took_put before now mid built builds same (inr (inl failed)) = record {
+    course = course.unreplaced built failed.1.said;
+    status_is = failed.1.is;
+    leaves = (build_is before mid built builds, failed_after built before.files mid now.files builds.leaves failed.0, record { says = failed.1.says; input = same });
+  }
+  took_put before now mid built builds same (inr (inr short)) = record {
+    course = course.starves_building built;
+    status_is = short.2;
+    leaves = (build_is before mid built builds, starved_after built before.files mid now.files builds.leaves short.0, rw (same, short.1) refl);
+  }
+
+-- it was out of memory before there was anything to do
+pub took_starved : (words : MapWords) (o : Objects) → Took words o o NO_MEMORY
+took_starved words o = record { course = course.starves; status_is = refl; leaves = ((refl, refl), refl) }

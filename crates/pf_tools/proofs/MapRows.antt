@@ -4,6 +4,8 @@ use Rattle.pf_base.specs.Text.Lines.{lines, rest}
 use Rattle.pf_base.specs.declared.pair.Pair.{Pair}
 use Rattle.pf_asks.specs.Looking.{Meaning}
 use Rattle.pf_table.specs.Tables.{fail_meaning, keyed_meaning, static_meaning}
+use Rattle.pf_table.specs.declared.text.Repeated.{Repeated}
+use Rattle.pf_tools.specs.Map.Built.{cdb_name, text_name, warnings_of}
 use Rattle.pf_tools.specs.Map.Course.{ended_status, keys_status, value_status}
 use Rattle.pf_tools.specs.Map.Keys.{keys_of, whole_keys}
 use Rattle.pf_tools.specs.Map.Lines.{has_value, key_lines, pair_lines, value_at, value_line}
@@ -58,3 +60,17 @@ statuses_of_keys = refl
 -- a text without a type names a cdb
 types : map text_of (codes "t" ∷ codes "texthash:t" ∷ codes ":" ∷ []) ≡ codes "cdb:t" ∷ codes "texthash:t" ∷ codes ":" ∷ []
 types = refl
+
+-- the names of a text and of the cdb that is built of it
+names : map text_name (codes "t" ∷ codes "cdb:t" ∷ codes "cdb:a:b" ∷ codes "cdb:" ∷ []) ≡ codes "t" ∷ codes "t" ∷ codes "a:b" ∷ [] ∷ []
+names = refl
+
+cdb_names : map cdb_name (codes "t" ∷ codes "cdb:t" ∷ []) ≡ codes "t.cdb" ∷ codes "t.cdb" ∷ []
+cdb_names = refl
+
+abbrev repeated : List Repeated
+repeated = record { line = 2; key = codes "b" } ∷ record { line = 12; key = codes "c\td" } ∷ []
+
+warnings : map (λ warned. warnings_of (codes "t") warned repeated) (true ∷ false ∷ [])
+    ≡ codes "postgate: warning: t:2: duplicate entry: b\npostgate: warning: t:12: duplicate entry: c?d\n" ∷ [] ∷ []
+warnings = refl

@@ -1,3 +1,4 @@
+pub mod Built
 pub mod Course
 pub mod Keys
 pub mod Lines

@@ -1,4 +1,5 @@
-//! postmap: the value of a key, the values of the keys of the input, and the pairs of a table.
+//! postmap: a cdb that is built, the value of a key, the values of the keys of the input, and the pairs of a table.
+pub(crate) mod build;
 pub(crate) mod keys;
 pub(crate) mod lines;
 pub(crate) mod run;

@@ -12,11 +12,12 @@ use Rattle.pf_cidr.specs.Addresses.{address_of}
 use Rattle.pf_cidr.specs.declared.address.Addr.TheVariants.{V4, V6}
 use Rattle.pf_words.specs.Commands.{bare_app, postconf_app, smtpd_app, with_flag, with_option, with_rest}
 use Rattle.pf_words.specs.Found.{has_flag, rows_in, value_in}
+use Rattle.pf_table.specs.declared.pairs.Repeats.TheVariants.{First, Last}
 use Rattle.pf_base.specs.Text.Numbers.{decimal_within, is_decimal}
 use Rattle.pf_words.specs.Numbers.{budget_of}
 use Rattle.pf_words.specs.Postconf.{conf_in, conf_of}
 use Rattle.pf_words.specs.Assignments.{assignment_of_word, assignments_of_words}
-use Rattle.pf_words.specs.Postmap.{can_list, map_in, map_of}
+use Rattle.pf_words.specs.Postmap.{can_build, can_list, map_in, map_of}
 use Rattle.pf_words.specs.Smtpd.{smtpd_in, smtpd_of}
 use Rattle.pf_words.specs.Words.{log_name, mail_name, words_of}
 use Rattle.pf_words.specs.declared.postconf.ConfMode.TheVariants as mode
@@ -221,6 +222,17 @@ edit_or_print = refl
 abbrev pairs : MapWords
 pairs = record { job = job.Elements; folded = true; table = codes "texthash:t"; budget = 4294967296 }
 
+builds : map said (codes "postmap t" ∷ codes "postmap -w cdb:t" ∷ codes "postmap -fr cdb:a:b" ∷ [])
+    ≡ Some (Postmap (record pairs { job = job.Build First true; table = codes "t" })) ∷ Some (Postmap (record pairs { job = job.Build First false; table = codes "cdb:t" }))
+    ∷ Some (Postmap (record pairs { job = job.Build Last false; folded = false; table = codes "cdb:a:b" })) ∷ []
+unfolding words_of map_of map_in rows_in given_to_clap clap_on_literals
+builds = refl
+
+no_builds : map said (codes "postmap texthash:t" ∷ codes "postmap -r -w t" ∷ codes "postmap -r -q key t" ∷ codes "postmap -ws t" ∷ codes "postmap -b 7 t" ∷ codes "postmap" ∷ [])
+    ≡ None ∷ None ∷ None ∷ None ∷ None ∷ None ∷ []
+unfolding words_of map_of map_in rows_in given_to_clap clap_on_literals budget_of
+no_builds = refl
+
 queries : map said (codes "postmap -q key texthash:t" ∷ codes "postmap -fqkey texthash:t" ∷ codes "postmap texthash:t -q=key" ∷ [])
     ≡ Some (Postmap (record pairs { job = job.Query (codes "key") })) ∷ Some (Postmap (record pairs { job = job.Query (codes "key"); folded = false }))
     ∷ Some (Postmap (record pairs { job = job.Query (codes "key") })) ∷ []
@@ -240,6 +252,10 @@ all_pairs : map said (codes "postmap -s texthash:t" ∷ codes "postmap -sf t" �
     ≡ Some (Postmap pairs) ∷ Some (Postmap (record pairs { folded = false; table = codes "t" })) ∷ None ∷ None ∷ None ∷ None ∷ []
 unfolding words_of map_of map_in rows_in given_to_clap clap_on_literals
 all_pairs = refl
+
+built_types : map can_build (codes "t" ∷ codes "cdb:t" ∷ codes "cdb:" ∷ codes "cdb:a:b" ∷ codes "texthash:t" ∷ codes ":t" ∷ [])
+    ≡ true ∷ true ∷ true ∷ true ∷ false ∷ false ∷ []
+built_types = refl
 
 listed_types : map can_list (codes "t" ∷ codes "cdb:t" ∷ codes "inline:{}" ∷ codes "texthash:a:b" ∷ codes ":t" ∷ codes "static:a" ∷ codes "/t" ∷ [])
     ≡ true ∷ true ∷ true ∷ true ∷ false ∷ false ∷ true ∷ []

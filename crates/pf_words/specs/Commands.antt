@@ -60,9 +60,9 @@ postconf_flags = (110, codes "set") ∷ (100, codes "defaults") ∷ (120, codes 
 abbrev pub postconf_options : List (ℕ × Text)
 postconf_options = (99, codes "folder") ∷ (111, codes "over") ∷ []
 
--- the flags of postmap: -s and -f
+-- the flags of postmap: -r, -w, -s and -f
 abbrev pub postmap_flags : List (ℕ × Text)
-postmap_flags = (115, codes "elements") ∷ (102, codes "unfolded") ∷ []
+postmap_flags = (114, codes "replace") ∷ (119, codes "quiet") ∷ (115, codes "elements") ∷ (102, codes "unfolded") ∷ []
 
 -- its options: -q and -b
 abbrev pub postmap_options : List (ℕ × Text)

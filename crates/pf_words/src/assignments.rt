@@ -54,7 +54,10 @@ fn all_settings(alloc: Global, words: &[Bytes]) -> Result<Option<List<Setting>>,
 /// The settings of words `name=value` in their order, each with the line 0; None where one of the words is none, or two of them have one
 /// name (postconf(1), -e). They are what `MainCf::edit` takes.
 #[tactic(auto, unfolding(crate::specs::Assignments::assignments_of_words))]
-pub fn assignments_of_words(alloc: Global, words: &[Bytes]) -> Result<Option<List<Setting>>, NoMemory>
+pub fn assignments_of_words(
+    alloc: Global,
+    words: &[Bytes],
+) -> Result<Option<List<Setting>>, NoMemory>
     ensures is { IfOk result (λ settings. settings ≡ sets.assignments_of_words words.now) }
     ensures sets { IfOk result (λ settings. IfSome settings AreAssignments) }
 {

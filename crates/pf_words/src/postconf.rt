@@ -6,11 +6,11 @@ ghost use Rattle.pf_words.specs.Commands as commands;
 ghost use Rattle.pf_words.specs.Found.{rows_found};
 ghost use Rattle.pf_words.specs.Postconf as postconf;
 
+use crate::assignments::{assignment_of_word, assignments_of_words};
 use crate::command::{
     bare_command, copy_of, has_flag, matches_in, rest_in, value_in, with_flags, with_options,
     with_rest,
 };
-use crate::assignments::{assignment_of_word, assignments_of_words};
 use clap::{ArgMatches, Command};
 use pf_base::{Bytes, List, NoMemory};
 use std::alloc::Global;

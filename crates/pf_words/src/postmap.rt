@@ -1,5 +1,5 @@
-//! The words of postmap: `postmap -q key [-f] type:name`, `postmap -q - [-f] [-b budget] type:name` and
-//! `postmap -s [-f] type:name`.
+//! The words of postmap: `postmap [-r or -w] [-f] [cdb:]name`, `postmap -q key [-f] type:name`, `postmap -q - [-f] [-b budget]
+//! type:name` and `postmap -s [-f] type:name`.
 ghost use Rattle.std.specs.Prelude.{◌≡◌, ◌==◌, IfOk, map, option_copied};
 ghost use Rattle.std.specs.List.{position};
 ghost use Rattle.std.specs.String.{string_bytes};
@@ -15,19 +15,22 @@ use crate::command::{
 use crate::smtpd::budget_in;
 use clap::{ArgMatches, Command};
 use pf_base::{Bytes, NoMemory};
+use pf_table::Repeats;
 use std::alloc::Global;
 
-/// What postmap is asked for: to print the value of a key (`-q`), or of each key of the input (`-q -`), or to print all pairs (`-s`).
+/// What postmap is asked for: to build a table, of whose repeated keys the first or the last counts, and to warn of them or not; to
+/// print the value of a key (`-q`), or of each key of the input (`-q -`); or to print all pairs (`-s`).
 #[derive(Debug, Drop)]
 pub enum MapJob {
+    Build(Repeats, bool),
     Query(Bytes),
     QueryInput,
     Elements,
 }
 
 /// What the words of postmap say (postmap(1)): what it is asked for, whether letters count as the same in either case (no `-f`), the text
-/// of the table, and how many bytes of keys may be taken. A text without a colon names a cdb. A table whose pairs are printed is a text
-/// table, a cdb or an inline table.
+/// of the table, and how many bytes of keys may be taken. A text without a colon names a cdb. A table that is built is a
+/// cdb, and one whose pairs are printed a text table, a cdb or an inline table.
 #[derive(Debug, Drop)]
 pub struct MapWords {
     pub job: MapJob,
@@ -42,7 +45,12 @@ fn postmap_command<'a>(alloc: Global) -> Result<Command<'a>, NoMemory>
     let command = with_flags(
         alloc,
         bare_command(alloc, "postmap"),
-        &[('s', "elements"), ('f', "unfolded")],
+        &[
+            ('r', "replace"),
+            ('w', "quiet"),
+            ('s', "elements"),
+            ('f', "unfolded"),
+        ],
     )?;
     let command = with_options(alloc, command, &[('q', "query"), ('b', "budget")])?;
     with_rest(alloc, command, "rest")
@@ -65,7 +73,17 @@ fn kind_of(table: &[u8]) -> Option<&[u8]>
     }
 }
 
-// Whether the text names a table whose pairs can be printed.
+// Whether the text names a table that can be built.
+fn can_build(table: &[u8]) -> bool
+    ensures { result ≡ postmap.can_build table.now }
+{
+    match kind_of(table) {
+        None => true,
+        Some(kind) => kind == b"cdb".as_slice(),
+    }
+}
+
+// Whether it names one whose pairs can be printed.
 fn can_list(table: &[u8]) -> bool
     ensures { result ≡ postmap.can_list table.now }
 {
@@ -81,10 +99,25 @@ fn fits(job: &MapJob, table: &[u8]) -> bool
     ensures { result ≡ postmap.fits job.now table.now }
 {
     match job {
+        MapJob::Build(_, _) => can_build(table),
         MapJob::Query(_) => true,
         MapJob::QueryInput => true,
         MapJob::Elements => can_list(table),
     }
+}
+
+// Whether something is said of how to build.
+fn has_build_option(matches: &ArgMatches<'_>) -> bool
+    ensures { result ≡ postmap.has_build_option (rows_found matches.now) }
+{
+    has_flag(matches, "replace") || has_flag(matches, "quiet")
+}
+
+// Whether something is said of what to print.
+fn has_print_option(matches: &ArgMatches<'_>) -> bool
+    ensures { result ≡ postmap.has_print_option (rows_found matches.now) }
+{
+    value_in(matches, "query").is_some() || has_flag(matches, "elements")
 }
 
 // Whether keys are read from the input.
@@ -101,7 +134,9 @@ fn reads_input(matches: &ArgMatches<'_>) -> bool
 fn options_agree(matches: &ArgMatches<'_>) -> bool
     ensures { result ≡ postmap.options_agree (rows_found matches.now) }
 {
-    !(value_in(matches, "query").is_some() && has_flag(matches, "elements"))
+    !(has_flag(matches, "replace") && has_flag(matches, "quiet"))
+        && !(value_in(matches, "query").is_some() && has_flag(matches, "elements"))
+        && !(has_build_option(matches) && has_print_option(matches))
         && (reads_input(matches) || value_in(matches, "budget").is_none())
 }
 
@@ -115,17 +150,26 @@ fn query_of(alloc: Global, key: &str) -> Result<MapJob, NoMemory>
     }
 }
 
-// What the options ask for, if they ask.
-fn job_in(alloc: Global, matches: &ArgMatches<'_>) -> Result<Option<MapJob>, NoMemory>
+fn build_in(matches: &ArgMatches<'_>) -> MapJob
+    ensures { result ≡ postmap.build_in (rows_found matches.now) }
+{
+    if has_flag(matches, "replace") {
+        MapJob::Build(Repeats::Last, false)
+    } else {
+        MapJob::Build(Repeats::First, !has_flag(matches, "quiet"))
+    }
+}
+
+fn job_in(alloc: Global, matches: &ArgMatches<'_>) -> Result<MapJob, NoMemory>
     ensures { IfOk result (λ job. job ≡ postmap.job_in (rows_found matches.now)) }
 {
     match value_in(matches, "query") {
-        Some(key) => Ok(Some(query_of(alloc, key)?)),
+        Some(key) => query_of(alloc, key),
         None => {
             if has_flag(matches, "elements") {
-                Ok(Some(MapJob::Elements))
+                Ok(MapJob::Elements)
             } else {
-                Ok(None)
+                Ok(build_in(matches))
             }
         }
     }
@@ -155,9 +199,7 @@ fn map_in(alloc: Global, matches: &ArgMatches<'_>) -> Result<Option<MapWords>, N
     let Some(budget) = budget_in(value_in(matches, "budget")) else {
         return Ok(None);
     };
-    let Some(job) = job_in(alloc, matches)? else {
-        return Ok(None);
-    };
+    let job = job_in(alloc, matches)?;
     if !fits(&job, table.as_slice()) {
         return Ok(None);
     }

@@ -36,7 +36,8 @@ fn names_command(name: &str, words: &[String]) -> bool
 
 /// What words say, the first of which names the command: `smtpd [-c folder] -p client -m mail [-l log] [-b budget]`,
 /// `postconf [-n or -d] [-x] [-h or -H] [-c folder] [-o name=value] [name ..]`, `postconf -e [-c folder] name=value ..`,
-/// `postmap -q key [-f] type:name`, `postmap -q - [-f] [-b budget] type:name` or `postmap -s [-f] type:name`. None where they are not of these forms. No option comes twice; its value is the next word or the rest of its word, a leading `=` dropped; flags may be
+/// `postmap [-r or -w] [-f] [cdb:]name`, `postmap -q key [-f] type:name`, `postmap -q - [-f] [-b budget] type:name` or
+/// `postmap -s [-f] type:name`. None where they are not of these forms. No option comes twice; its value is the next word or the rest of its word, a leading `=` dropped; flags may be
 /// joined; `--` ends the options; options may be after other words. The commands are postgate's own, the letters of postconf are those of
 /// postconf(1), and how options are written is that of the kit's clap.
 #[tactic(auto, unfolding(crate::specs::Words::words_of))]

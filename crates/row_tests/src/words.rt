@@ -6,6 +6,7 @@
 use crate::add_number;
 use pf_base::{Bytes, ConfFault, NoMemory};
 use pf_maincf::MainCf;
+use pf_table::Repeats;
 use pf_words::{
     ConfMode, ConfWords, MapJob, MapWords, Shape, SmtpdWords, Words, assignment_of_word,
     assignments_of_words, sink_names, words_of,
@@ -85,6 +86,13 @@ fn add_postconf(said: &mut Bytes, words: &ConfWords) -> Result<(), NoMemory> {
 
 fn add_job(said: &mut Bytes, job: &MapJob) -> Result<(), NoMemory> {
     match job {
+        MapJob::Build(repeats, warned) => {
+            said.extend(match repeats {
+                Repeats::First => b" first".as_slice(),
+                Repeats::Last => b" last".as_slice(),
+            })?;
+            said.extend(if *warned { b" warned".as_slice() } else { b"".as_slice() })
+        }
         MapJob::Query(key) => said.extend_all(&[b" <", key.as_slice(), b">"]),
         MapJob::QueryInput => said.extend(b" keys"),
         MapJob::Elements => said.extend(b" pairs"),

@@ -16,6 +16,7 @@ statuses = DONE ∷ WARNED ∷ REFUSED ∷ INPUT_FAILED ∷ OUT_FAILED ∷ LOG_F
 
 -- its statuses by what there is to do, where no call failed
 abbrev pub statuses_by : Result Task Refused → List ℕ
+statuses_by (Ok (task.builds built)) = DONE ∷ NO_MEMORY ∷ []
 statuses_by (Ok (task.answers value)) = value_status value ∷ NO_MEMORY ∷ []
 statuses_by (Ok (task.serves meaning)) = DONE ∷ WARNED ∷ AT_BUDGET ∷ NO_MEMORY ∷ []
 statuses_by (Ok (task.lists pairs)) = DONE ∷ NO_MEMORY ∷ []

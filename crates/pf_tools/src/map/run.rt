@@ -1,25 +1,29 @@
 //! The top call of postmap.
-ghost use Rattle.std.specs.Prelude.{◌≡◌, codes, slice_get};
+ghost use Rattle.std.specs.Prelude.{◌≡◌, ◌++◌, codes, slice_get, IfOk};
+ghost use Rattle.std.specs.Str.{IsUtf8};
 ghost use Rattle.pf_base.specs.Outside.Known.{Input, Output};
 ghost use Rattle.pf_base.specs.Outside.Objects.{Says, log_text, objects, out_text, sinks};
 ghost use Rattle.pf_base.specs.Refusal.{refusal_line};
 ghost use Rattle.pf_maincf.specs.File.{failed_line as failed_text};
 ghost use Rattle.pf_maps.specs.Clauses.Seen.{listed};
-ghost use Rattle.pf_tools.specs.Clauses.Opened.{Ends, SaysUnopened, value_in};
+ghost use Rattle.pf_tools.specs.Clauses.Opened.{Ends, IsPut, SaysUnopened, value_in};
 ghost use Rattle.pf_tools.specs.Map.Course as spec;
 ghost use Rattle.pf_tools.specs.Map.Course.{Took};
 ghost use Rattle.pf_tools.specs.Map.Lines as lines;
 ghost use Rattle.pf_tools.specs.Map.Run.{PostmapRun};
 
+use crate::map::build::{Built, build, cdb_name};
 use crate::map::keys::{Ended, KeysFault, answer_keys};
 use crate::map::lines::{pair_lines, value_line};
 use crate::map::table::{open_table, pairs_of, value_of};
 use pf_base::status::{AT_BUDGET, DONE, FILES_FAILED, INPUT_FAILED, NO_MEMORY, REFUSED, WARNED};
 use pf_base::{
-    Bytes, Files, Refused, Sink, SinkFault, Source, status_behind, write_log, write_out,
+    Bytes, Files, NoMemory, OuterFault, Refused, Sink, SinkFault, Source, status_behind, write_log,
+    write_out,
 };
 use pf_maincf::failed_line;
 use pf_maps::{OpenFault, Tables};
+use pf_table::Repeats;
 use pf_words::{MapJob, MapWords};
 use std::alloc::Global;
 
@@ -31,6 +35,16 @@ fn say_refused<J: Sink>(alloc: Global, refusal: &Refused, log: &mut J) -> Result
         return Err(SinkFault::NoMemory);
     };
     write_log(log, line.as_slice())
+}
+
+// The warnings with the line of a failed replacement after them.
+fn with_failed_line(alloc: Global, name: &[u8], warnings: &Bytes) -> Result<Bytes, NoMemory>
+    ensures { IfOk result (λ text. text ≡ warnings.now ++ failed_text name.now (codes "replace")) }
+{
+    let line = failed_line(alloc, name, b"replace")?;
+    let mut text = warnings.copy(alloc)?;
+    text.extend(line.as_slice())?;
+    Ok(text)
 }
 
 // Says that a file could not be read.
@@ -116,6 +130,72 @@ fn say_pairs<O: Sink>(alloc: Global, tables: &Tables, out: &mut O) -> u8
     status_behind(DONE, write_out(out, lines.as_slice()))
 }
 
+// Says the warnings, and that the cdb could not be put in its place.
+fn say_unreplaced<J: Sink>(
+    alloc: Global,
+    name: &[u8],
+    warnings: &Bytes,
+    log: &mut J,
+) -> Result<(), SinkFault>
+    ensures { (out mail : Output) → Says (sinks out mail (J.known log.old)) (sinks out mail (J.known log.new))
+        (log_text (warnings.now ++ failed_text name.now (codes "replace"))) result }
+{
+    let Ok(text) = with_failed_line(alloc, name, warnings) else {
+        return Err(SinkFault::NoMemory);
+    };
+    write_log(log, text.as_slice())
+}
+
+// Puts a cdb in its place, and says the warnings.
+fn put_built<F: Files, J: Sink>(
+    alloc: Global,
+    name: &[u8],
+    built: &Built,
+    files: &mut F,
+    log: &mut J,
+) -> u8
+    requires { IsUtf8 name.now }
+    ensures { (out mail : Output) → IsPut name.now built.now (F.known files.old) (F.known files.new)
+        (sinks out mail (J.known log.old)) (sinks out mail (J.known log.new)) result }
+{
+    let Ok(file) = str::from_utf8(name) else {
+        unreachable!();
+    };
+    match files.replace(file, built.bytes.as_slice()) {
+        Ok(()) => status_behind(DONE, write_log(log, built.warnings.as_slice())),
+        Err(OuterFault::Failed) => {
+            status_behind(
+                FILES_FAILED,
+                say_unreplaced(alloc, name, &built.warnings, log),
+            )
+        }
+        Err(OuterFault::NoMemory) => NO_MEMORY,
+    }
+}
+
+// Builds a cdb.
+fn run_build<F: Files, J: Sink>(
+    alloc: Global,
+    words: &MapWords,
+    repeats: Repeats,
+    warned: bool,
+    files: &mut F,
+    log: &mut J,
+) -> u8
+    requires { words.now.job ≡ MapJob.Build repeats warned }
+    ensures { (input : Input) (out mail : Output) → Took words.now
+        (objects input out mail (J.known log.old) (F.known files.old))
+        (objects input out mail (J.known log.new) (F.known files.new)) result }
+{
+    let Ok(name) = cdb_name(alloc, words.table.as_slice()) else {
+        return NO_MEMORY;
+    };
+    match build(alloc, words, repeats, warned, files) {
+        Ok(built) => put_built(alloc, name.as_slice(), &built, files, log),
+        Err(fault) => say_unopened(alloc, fault, log),
+    }
+}
+
 // Prints the value of a key (`-q key`).
 fn run_query<F: Files, O: Sink, J: Sink>(
     alloc: Global,
@@ -175,8 +255,8 @@ fn run_keys<S: Source, F: Files, O: Sink, J: Sink>(
     }
 }
 
-/// Runs postmap: `words` are its words, the table is read from `files`, keys come from `input` where they are asked for (`-q -`), the
-/// values and the pairs go to `out`, and why a table is refused to `log`. It answers the exit status: done, nothing found, the table is
+/// Runs postmap: `words` are its words, the table is read from `files` and a cdb that is built is put there, keys come from `input`
+/// where they are asked for (`-q -`), the values and the pairs go to `out`, and warnings and why a table is refused to `log`. It answers the exit status: done, nothing found, the table is
 /// refused, the budget was taken, or no memory; those of `input`, `out`, `log` and `files` come only where their count rose. The
 /// statuses are postgate's own.
 pub fn postmap<S: Source, F: Files, O: Sink, J: Sink>(
@@ -192,6 +272,7 @@ pub fn postmap<S: Source, F: Files, O: Sink, J: Sink>(
         (objects (S.known input.new) (O.known out.new) mail (J.known log.new) (F.known files.new)) result }
 {
     match &words.job {
+        MapJob::Build(repeats, warned) => run_build(alloc, words, *repeats, *warned, files, log),
         MapJob::Query(key) => run_query(alloc, words, key.as_slice(), files, out, log),
         MapJob::QueryInput => run_keys(alloc, words, input, files, out, log),
         MapJob::Elements => run_elements(alloc, words, files, out, log),

@@ -1,0 +1,170 @@
+//! A cdb that is built of a text.
+ghost use Rattle.std.specs.Prelude.{◌≡◌, ◌++◌, true, IfOk, OnOk};
+ghost use Rattle.std.specs.Str.{IsUtf8};
+ghost use Rattle.pf_base.specs.Clauses.Unless.{Unless};
+ghost use Rattle.pf_cdb.specs.Written.{written_file};
+ghost use Rattle.pf_maps.specs.Clauses.Opened.{Opens, held_as};
+ghost use Rattle.pf_table.specs.Clauses.Faults.{as_fault};
+ghost use Rattle.pf_tools.specs.Map.Built as spec;
+
+use pf_base::{Bytes, Cause, ConfFault, Files, List, NoMemory, Pair, add_line, decimal};
+use pf_cdb::{WriteFault, write};
+use pf_maps::{OpenFault, file_text};
+use pf_table::{Repeated, Repeats, TextRead, TextTable, refused};
+use pf_words::MapWords;
+use std::alloc::Global;
+
+/// The bytes of a cdb, and the warnings of the repeated keys of its text.
+#[derive(Debug, Drop)]
+pub(crate) struct Built {
+    pub(crate) bytes: Bytes,
+    pub(crate) warnings: Bytes,
+}
+
+/// The name of the text of a table.
+pub(crate) fn text_name(table: &[u8]) -> &[u8]
+    ensures { result.now ≡ spec.text_name table.now }
+{
+    match table.iter().position(|b| *b == b':') {
+        None => table,
+        Some(colon) => &table[colon + 1..],
+    }
+}
+
+/// The name of the cdb.
+pub(crate) fn cdb_name(alloc: Global, table: &[u8]) -> Result<Bytes, NoMemory>
+    ensures { IfOk result (λ name. name ≡ spec.cdb_name table.now) }
+{
+    let mut name = Bytes::from_slice(alloc, text_name(table))?;
+    name.extend(b".cdb")?;
+    Ok(name)
+}
+
+fn add_warning(
+    alloc: Global,
+    text: &mut Bytes,
+    file: &[u8],
+    repeated: &Repeated,
+) -> Result<(), NoMemory>
+    ensures { OnOk result (text.new ≡ text.old ++ spec.warning_of file.now repeated.now) }
+{
+    let line = decimal(alloc, repeated.line)?;
+    let mut warning = Bytes::new(alloc);
+    warning.extend_all(&[
+        b"postgate: warning: ",
+        file,
+        b":",
+        line.as_bytes(),
+        b": duplicate entry: ",
+        repeated.key.as_slice(),
+    ])?;
+    add_line(text, warning.as_slice())
+}
+
+fn all_warnings(alloc: Global, file: &[u8], repeated: &[Repeated]) -> Result<Bytes, NoMemory>
+    ensures { IfOk result (λ warnings. warnings ≡ spec.warnings_of file.now true repeated.now) }
+{
+    let mut warnings = Bytes::new(alloc);
+    for one in repeated {
+        add_warning(alloc, &mut warnings, file, one)?;
+    }
+    Ok(warnings)
+}
+
+// The warnings, where they are asked for.
+fn warnings_of(
+    alloc: Global,
+    file: &[u8],
+    warned: bool,
+    repeated: &[Repeated],
+) -> Result<Bytes, NoMemory>
+    ensures { IfOk result (λ warnings. warnings ≡ spec.warnings_of file.now warned repeated.now) }
+{
+    if warned {
+        all_warnings(alloc, file, repeated)
+    } else {
+        Ok(Bytes::new(alloc))
+    }
+}
+
+// The bytes of a cdb of these pairs.
+fn cdb_of(alloc: Global, name: &[u8], pairs: &List<Pair>) -> Result<Bytes, ConfFault>
+    ensures { Unless result ConfFault.NoMemory (λ r. r ≡ as_fault (spec.cdb_or_refused name.now (written_file pairs.now))) }
+{
+    match write(alloc, pairs) {
+        Ok(bytes) => Ok(bytes),
+        Err(WriteFault::TooLarge) => Err(refused(alloc, b"words", 0, Cause::C15, name)),
+        Err(WriteFault::NoMemory) => Err(ConfFault::NoMemory),
+    }
+}
+
+// The bytes of the cdb of a table.
+fn table_cdb(alloc: Global, table: &[u8], text: &TextTable) -> Result<Bytes, ConfFault>
+    ensures { Unless result ConfFault.NoMemory (λ r. r ≡ as_fault (spec.cdb_or_refused (spec.cdb_name table.now) (written_file text.now.pairs))) }
+{
+    let Ok(name) = cdb_name(alloc, table) else {
+        return Err(ConfFault::NoMemory);
+    };
+    match text.pairs(alloc) {
+        Ok(pairs) => cdb_of(alloc, name.as_slice(), &pairs),
+        Err(NoMemory) => Err(ConfFault::NoMemory),
+    }
+}
+
+// What is built of a text that was read.
+fn read_built(
+    alloc: Global,
+    table: &[u8],
+    warned: bool,
+    read: &TextRead,
+) -> Result<Built, ConfFault>
+    ensures { Unless result ConfFault.NoMemory (λ r. r ≡ as_fault (spec.read_built table.now warned read.now)) }
+{
+    let bytes = table_cdb(alloc, table, &read.table)?;
+    match warnings_of(alloc, text_name(table), warned, read.repeated.as_slice()) {
+        Ok(warnings) => Ok(Built { bytes, warnings }),
+        Err(NoMemory) => Err(ConfFault::NoMemory),
+    }
+}
+
+// What is built of a text.
+fn text_built(
+    alloc: Global,
+    words: &MapWords,
+    repeats: Repeats,
+    warned: bool,
+    text: &[u8],
+) -> Result<Built, ConfFault>
+    ensures { Unless result ConfFault.NoMemory (λ r. r ≡ as_fault (spec.text_built words.now.table words.now.folded repeats warned text.now)) }
+{
+    let table = words.table.as_slice();
+    let read = TextTable::read(alloc, text_name(table), text, words.folded, repeats)?;
+    read_built(alloc, table, warned, &read)
+}
+
+// What was made without a file.
+fn held(built: Result<Built, ConfFault>) -> Result<Built, OpenFault>
+    ensures { result ≡ held_as built }
+{
+    match built {
+        Ok(built) => Ok(built),
+        Err(ConfFault::Refused(refusal)) => Err(OpenFault::Refused(refusal)),
+        Err(ConfFault::NoMemory) => Err(OpenFault::NoMemory),
+    }
+}
+
+/// What is built of the text that the words name.
+pub(crate) fn build<F: Files>(
+    alloc: Global,
+    words: &MapWords,
+    repeats: Repeats,
+    warned: bool,
+    files: &mut F,
+) -> Result<Built, OpenFault>
+    ensures opens { Opens (F.known files.old) (F.known files.new) (λ all. spec.built_in words.now.table words.now.folded repeats warned all) result }
+    ensures text { IfOk result (λ built. IsUtf8 (spec.text_name words.now.table)) }
+{
+    let name = text_name(words.table.as_slice());
+    let text = file_text(alloc, b"words", 0, name, files)?;
+    held(text_built(alloc, words, repeats, warned, text.as_slice()))
+}
