@@ -2,6 +2,7 @@
 use Rattle.std.specs.Prelude.{ℕ, ◌++◌, Bool, List, [], ◌∷◌, codes, Option, None, Some, Result, Ok, Err, if◌then◌else◌}
 use Rattle.std.specs.Str.{is_utf8}
 use Rattle.pf_base.specs.Outside.FileList.{file_of, whole_file}
+use Rattle.pf_base.specs.Refusal.{refused}
 use Rattle.pf_base.specs.Results.{◌>>=◌}
 use Rattle.pf_base.specs.TableTexts.{TableTexts}
 use Rattle.pf_base.specs.declared.pair.Pair.{Pair}
@@ -11,7 +12,7 @@ use Rattle.pf_base.specs.declared.refused.Refused.{Refused}
 use Rattle.pf_base.specs.declared.table_texts.TableText.{TableText}
 use Rattle.pf_cidr.specs.Tables.{table_of}
 use Rattle.pf_table.specs.Inline.{inline_of}
-use Rattle.pf_table.specs.Text.{refused, text_read}
+use Rattle.pf_table.specs.Text.{text_read}
 use Rattle.pf_table.specs.declared.pairs.Repeats.TheVariants.{First}
 use Rattle.pf_maps.specs.Cdb.{cdb_read}
 use Rattle.pf_maps.specs.Specification.{spec_of}

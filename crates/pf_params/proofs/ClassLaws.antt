@@ -12,7 +12,7 @@ use Rattle.std.specs.Result.{result_err, result_map_both}
 use Rattle.pf_base.specs.declared.refused.Cause.{Cause}
 use Rattle.pf_base.specs.declared.refused.Refused.{Refused}
 use Rattle.pf_catalogue.specs.Catalogue.{Row, catalogue}
-use Rattle.pf_maincf.proofs.SetLines.{not_true}
+use Rattle.pf_maincf.proofs.AssignmentLines.{not_true}
 use Rattle.pf_maincf.specs.Settings.{Conf, is_set}
 use Rattle.pf_params.specs.Accepted.{refusal_in}
 use Rattle.pf_params.specs.Classes.{class_names, class_read, class_row, class_rows, classes_of}

@@ -148,20 +148,20 @@ module _ (words : MapWords) (before now : Objects) where
   course_known (course.starves_building built) left = refl
 
   -- where a cdb could not be put in its place, a call on the files failed just once
-  failed_once : {built : Tree} → Kept (failed_tree before.files) now.files ⊎ Kept (failed_tree built) now.files → built.faults ≡ before.files.faults
+  failed_once : (built : Tree) → Kept (failed_tree before.files) now.files ⊎ Kept (failed_tree built) now.files → built.faults ≡ before.files.faults
       → now.files.faults ≡ counted before.files.faults
-  failed_once (inl kept) same = kept.1
-  failed_once (inr kept) same = kept.1 ∙ ap counted same
+  failed_once built (inl kept) same = kept.1
+  failed_once built (inr kept) same = kept.1 ∙ ap counted same
 
-  kept_faults : {built : Tree} → Kept before.files now.files ⊎ Kept built now.files → built.faults ≡ before.files.faults → now.files.faults ≡ before.files.faults
-  kept_faults (inl kept) same = kept.1
-  kept_faults (inr kept) same = kept.1 ∙ same
+  kept_faults : (built : Tree) → Kept before.files now.files ⊎ Kept built now.files → built.faults ≡ before.files.faults → now.files.faults ≡ before.files.faults
+  kept_faults built (inl kept) same = kept.1
+  kept_faults built (inr kept) same = kept.1 ∙ same
 
   course_causes : (c : Course) → Leaves words before now c → HasCauses (counts_of before) (counts_of now) (course_status c)
   course_causes (course.builds built said) left = said_causes before now DONE said (log_text _) left.2.input left.2.says refl
       (record { once = inl left.1.1; failed = λ is. cc; kept = λ is. left.1.1 })
   course_causes (course.unreplaced built said) left =
-      let failed = failed_once left.1 refl in
+      let failed = failed_once (replaced (cdb_name words.table) built.bytes before.files) left.1 refl in
       said_causes before now FILES_FAILED said (log_text _) left.2.input left.2.says refl (record { once = inr failed; failed = λ is. failed; kept = λ is. cc })
   course_causes (course.answers value said) left =
       said_causes before now (value_status value) said (out_text _) left.2.input left.2.says (by_value (λ s. is_among spoken s ≡ true) refl refl value)
@@ -178,7 +178,7 @@ module _ (words : MapWords) (before now : Objects) where
       (ap (λ s. s.sinks.mail.faults) left.1) (ap (λ s. s.sinks.log.faults) left.1) (inl left.0.1)
   course_causes (course.starves_building built) left =
       starved_causes (counts_of before) (counts_of now) (ap (λ s. s.input.faults) left.2) (ap (λ s. s.sinks.out.faults) left.2)
-      (ap (λ s. s.sinks.mail.faults) left.2) (ap (λ s. s.sinks.log.faults) left.2) (inl (kept_faults left.1 refl))
+      (ap (λ s. s.sinks.mail.faults) left.2) (ap (λ s. s.sinks.log.faults) left.2) (inl (kept_faults (replaced (cdb_name words.table) built.bytes before.files) left.1 refl))
 
   -- where no call failed, the status is that of what there is to do
   module _ (status : ℕ) (causes : HasCauses (counts_of before) (counts_of now) status) (files : List Pair) (known : before.files.content ≡ Some files)

@@ -1,6 +1,8 @@
 -- Worked examples of what postmap prints, each by computation.
 use Rattle.std.proofs.Common.{◌≡◌, ℕ, true, false, List, [], ◌∷◌, map, Option, None, Some, Ok, Err, refl, codes}
+use Rattle.std.specs.Fmt.{digits}
 use Rattle.pf_base.specs.Text.Lines.{lines, rest}
+use Rattle.pf_base.specs.Text.Printing.{printed_line}
 use Rattle.pf_base.specs.declared.pair.Pair.{Pair}
 use Rattle.pf_asks.specs.Looking.{Meaning}
 use Rattle.pf_table.specs.Tables.{fail_meaning, keyed_meaning, static_meaning}
@@ -73,4 +75,5 @@ repeated = record { line = 2; key = codes "b" } ∷ record { line = 12; key = co
 
 warnings : map (λ warned. warnings_of (codes "t") warned repeated) (true ∷ false ∷ [])
     ≡ codes "postgate: warning: t:2: duplicate entry: b\npostgate: warning: t:12: duplicate entry: c?d\n" ∷ [] ∷ []
+unfolding printed_line digits
 warnings = refl

@@ -1,8 +1,9 @@
 -- A cdb that is built of a text (postmap(1)), and the warnings of its repeated keys. The warnings and the refusals are postgate's own.
-use Rattle.std.specs.Prelude.{ℕ, ◌+◌, ◌++◌, ◌==◌, Bool, true, false, List, [], Result, Ok, Err, codes, drop, if◌then◌else◌}
+use Rattle.std.specs.Prelude.{ℕ, ◌+◌, ◌++◌, ◌==◌, Bool, true, false, List, [], ◌∷◌, Result, Ok, Err, codes, drop, if◌then◌else◌}
 use Rattle.std.specs.Fmt.{decimal}
 use Rattle.std.specs.List.{flat_map, position}
 use Rattle.std.specs.Option.{option_map_or}
+use Rattle.pf_base.specs.Refusal.{refused}
 use Rattle.pf_base.specs.Results.{◌>>=◌}
 use Rattle.pf_base.specs.Text.Ascii as ascii
 use Rattle.pf_base.specs.Text.Printing.{printed_line}
@@ -12,7 +13,7 @@ use Rattle.pf_base.specs.declared.refused.Refused.{Refused}
 use Rattle.pf_cdb.specs.Written.{written_file}
 use Rattle.pf_cdb.specs.declared.fault.WriteFault.{WriteFault}
 use Rattle.pf_maps.specs.Opening.{table_text}
-use Rattle.pf_table.specs.Text.{refused, text_read}
+use Rattle.pf_table.specs.Text.{text_read}
 use Rattle.pf_table.specs.declared.pairs.Repeats.{Repeats}
 use Rattle.pf_table.specs.declared.text.Repeated.{Repeated}
 use Rattle.pf_table.specs.declared.text.TextRead.{TextRead}
@@ -29,7 +30,8 @@ cdb_name table = text_name table ++ codes ".cdb"
 -- the warning of a line whose key is in an earlier one
 abbrev pub warning_of : List ℕ → Repeated → List ℕ
 warning_of file repeated =
-    printed_line (codes "postgate: warning: " ++ file ++ codes ":" ++ decimal repeated.line ++ codes ": duplicate entry: " ++ repeated.key)
+    printed_line (flat_map (λ part. part)
+    (codes "postgate: warning: " ∷ file ∷ codes ":" ∷ decimal repeated.line ∷ codes ": duplicate entry: " ∷ repeated.key ∷ []))
 
 -- the warnings, where they are asked for
 abbrev pub warnings_of : List ℕ → Bool → List Repeated → List ℕ

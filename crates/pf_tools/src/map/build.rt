@@ -1,16 +1,18 @@
 //! A cdb that is built of a text.
-ghost use Rattle.std.specs.Prelude.{◌≡◌, ◌++◌, true, IfOk, OnOk};
+ghost use Rattle.std.specs.Prelude.{◌≡◌, ◌++◌, ◌==◌, true, IfOk, OnOk};
+ghost use Rattle.std.specs.List.{position};
 ghost use Rattle.std.specs.Str.{IsUtf8};
+ghost use Rattle.pf_base.specs.Clauses.Faults.{as_fault};
 ghost use Rattle.pf_base.specs.Clauses.Unless.{Unless};
+ghost use Rattle.pf_base.specs.Text.Ascii as ascii;
 ghost use Rattle.pf_cdb.specs.Written.{written_file};
 ghost use Rattle.pf_maps.specs.Clauses.Opened.{Opens, held_as};
-ghost use Rattle.pf_table.specs.Clauses.Faults.{as_fault};
 ghost use Rattle.pf_tools.specs.Map.Built as spec;
 
-use pf_base::{Bytes, Cause, ConfFault, Files, List, NoMemory, Pair, add_line, decimal};
+use pf_base::{Bytes, Cause, ConfFault, Files, List, NoMemory, Pair, add_line, decimal, refuse};
 use pf_cdb::{WriteFault, write};
 use pf_maps::{OpenFault, file_text};
-use pf_table::{Repeated, Repeats, TextRead, TextTable, refused};
+use pf_table::{Repeated, Repeats, TextRead, TextTable};
 use pf_words::MapWords;
 use std::alloc::Global;
 
@@ -21,13 +23,19 @@ pub(crate) struct Built {
     pub(crate) warnings: Bytes,
 }
 
+fn colon_place(table: &[u8]) -> Option<usize>
+    ensures { result ≡ position (λ b. b == ascii.colon) table.now }
+{
+    table.iter().position(|b| *b == b':')
+}
+
 /// The name of the text of a table.
 pub(crate) fn text_name(table: &[u8]) -> &[u8]
     ensures { result.now ≡ spec.text_name table.now }
 {
-    match table.iter().position(|b| *b == b':') {
+    match colon_place(table) {
         None => table,
-        Some(colon) => &table[colon + 1..],
+        Some(place) => &table[place + 1..],
     }
 }
 
@@ -93,7 +101,7 @@ fn cdb_of(alloc: Global, name: &[u8], pairs: &List<Pair>) -> Result<Bytes, ConfF
 {
     match write(alloc, pairs) {
         Ok(bytes) => Ok(bytes),
-        Err(WriteFault::TooLarge) => Err(refused(alloc, b"words", 0, Cause::C15, name)),
+        Err(WriteFault::TooLarge) => Err(refuse(alloc, b"words", 0, Cause::C15, name)),
         Err(WriteFault::NoMemory) => Err(ConfFault::NoMemory),
     }
 }
@@ -102,13 +110,9 @@ fn cdb_of(alloc: Global, name: &[u8], pairs: &List<Pair>) -> Result<Bytes, ConfF
 fn table_cdb(alloc: Global, table: &[u8], text: &TextTable) -> Result<Bytes, ConfFault>
     ensures { Unless result ConfFault.NoMemory (λ r. r ≡ as_fault (spec.cdb_or_refused (spec.cdb_name table.now) (written_file text.now.pairs))) }
 {
-    let Ok(name) = cdb_name(alloc, table) else {
-        return Err(ConfFault::NoMemory);
-    };
-    match text.pairs(alloc) {
-        Ok(pairs) => cdb_of(alloc, name.as_slice(), &pairs),
-        Err(NoMemory) => Err(ConfFault::NoMemory),
-    }
+    let name = cdb_name(alloc, table)?;
+    let pairs = text.pairs(alloc)?;
+    cdb_of(alloc, name.as_slice(), &pairs)
 }
 
 // What is built of a text that was read.
@@ -121,10 +125,8 @@ fn read_built(
     ensures { Unless result ConfFault.NoMemory (λ r. r ≡ as_fault (spec.read_built table.now warned read.now)) }
 {
     let bytes = table_cdb(alloc, table, &read.table)?;
-    match warnings_of(alloc, text_name(table), warned, read.repeated.as_slice()) {
-        Ok(warnings) => Ok(Built { bytes, warnings }),
-        Err(NoMemory) => Err(ConfFault::NoMemory),
-    }
+    let warnings = warnings_of(alloc, text_name(table), warned, read.repeated.as_slice())?;
+    Ok(Built { bytes, warnings })
 }
 
 // What is built of a text.
