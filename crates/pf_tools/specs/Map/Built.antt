@@ -28,10 +28,12 @@ abbrev pub cdb_name : List ℕ → List ℕ
 cdb_name table = text_name table ++ codes ".cdb"
 
 -- the warning of a line whose key is in an earlier one
+abbrev pub warning_text : List ℕ → Repeated → List ℕ
+warning_text file repeated =
+    flat_map (λ part. part) (codes "postgate: warning: " ∷ file ∷ codes ":" ∷ decimal repeated.line ∷ codes ": duplicate entry: " ∷ repeated.key ∷ [])
+
 abbrev pub warning_of : List ℕ → Repeated → List ℕ
-warning_of file repeated =
-    printed_line (flat_map (λ part. part)
-    (codes "postgate: warning: " ∷ file ∷ codes ":" ∷ decimal repeated.line ∷ codes ": duplicate entry: " ∷ repeated.key ∷ []))
+warning_of file repeated = printed_line (warning_text file repeated)
 
 -- the warnings, where they are asked for
 abbrev pub warnings_of : List ℕ → Bool → List Repeated → List ℕ

@@ -40,12 +40,28 @@ pub(crate) fn text_name(table: &[u8]) -> &[u8]
 }
 
 /// The name of the cdb.
-pub(crate) fn cdb_name(alloc: Global, table: &[u8]) -> Result<Bytes, NoMemory>
+pub(crate) fn cdb_name(alloc: Global, table: &Bytes) -> Result<Bytes, NoMemory>
     ensures { IfOk result (λ name. name ≡ spec.cdb_name table.now) }
 {
-    let mut name = Bytes::from_slice(alloc, text_name(table))?;
+    let mut name = Bytes::from_slice(alloc, text_name(table.as_slice()))?;
     name.extend(b".cdb")?;
     Ok(name)
+}
+
+fn warning_text(alloc: Global, file: &[u8], repeated: &Repeated) -> Result<Bytes, NoMemory>
+    ensures { IfOk result (λ text. text ≡ spec.warning_text file.now repeated.now) }
+{
+    let line = decimal(alloc, repeated.line)?;
+    let mut text = Bytes::new(alloc);
+    text.extend_all(&[
+        b"postgate: warning: ",
+        file,
+        b":",
+        line.as_bytes(),
+        b": duplicate entry: ",
+        repeated.key.as_slice(),
+    ])?;
+    Ok(text)
 }
 
 fn add_warning(
@@ -56,16 +72,7 @@ fn add_warning(
 ) -> Result<(), NoMemory>
     ensures { OnOk result (text.new ≡ text.old ++ spec.warning_of file.now repeated.now) }
 {
-    let line = decimal(alloc, repeated.line)?;
-    let mut warning = Bytes::new(alloc);
-    warning.extend_all(&[
-        b"postgate: warning: ",
-        file,
-        b":",
-        line.as_bytes(),
-        b": duplicate entry: ",
-        repeated.key.as_slice(),
-    ])?;
+    let warning = warning_text(alloc, file, repeated)?;
     add_line(text, warning.as_slice())
 }
 
@@ -107,7 +114,7 @@ fn cdb_of(alloc: Global, name: &[u8], pairs: &List<Pair>) -> Result<Bytes, ConfF
 }
 
 // The bytes of the cdb of a table.
-fn table_cdb(alloc: Global, table: &[u8], text: &TextTable) -> Result<Bytes, ConfFault>
+fn table_cdb(alloc: Global, table: &Bytes, text: &TextTable) -> Result<Bytes, ConfFault>
     ensures { Unless result ConfFault.NoMemory (λ r. r ≡ as_fault (spec.cdb_or_refused (spec.cdb_name table.now) (written_file text.now.pairs))) }
 {
     let name = cdb_name(alloc, table)?;
@@ -118,14 +125,19 @@ fn table_cdb(alloc: Global, table: &[u8], text: &TextTable) -> Result<Bytes, Con
 // What is built of a text that was read.
 fn read_built(
     alloc: Global,
-    table: &[u8],
+    table: &Bytes,
     warned: bool,
     read: &TextRead,
 ) -> Result<Built, ConfFault>
     ensures { Unless result ConfFault.NoMemory (λ r. r ≡ as_fault (spec.read_built table.now warned read.now)) }
 {
     let bytes = table_cdb(alloc, table, &read.table)?;
-    let warnings = warnings_of(alloc, text_name(table), warned, read.repeated.as_slice())?;
+    let warnings = warnings_of(
+        alloc,
+        text_name(table.as_slice()),
+        warned,
+        read.repeated.as_slice(),
+    )?;
     Ok(Built { bytes, warnings })
 }
 
@@ -139,9 +151,9 @@ fn text_built(
 ) -> Result<Built, ConfFault>
     ensures { Unless result ConfFault.NoMemory (λ r. r ≡ as_fault (spec.text_built words.now.table words.now.folded repeats warned text.now)) }
 {
-    let table = words.table.as_slice();
-    let read = TextTable::read(alloc, text_name(table), text, words.folded, repeats)?;
-    read_built(alloc, table, warned, &read)
+    let name = text_name(words.table.as_slice());
+    let read = TextTable::read(alloc, name, text, words.folded, repeats)?;
+    read_built(alloc, &words.table, warned, &read)
 }
 
 // What was made without a file.

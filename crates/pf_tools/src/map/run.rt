@@ -187,7 +187,7 @@ fn run_build<F: Files, J: Sink>(
         (objects input out mail (J.known log.old) (F.known files.old))
         (objects input out mail (J.known log.new) (F.known files.new)) result }
 {
-    let Ok(name) = cdb_name(alloc, words.table.as_slice()) else {
+    let Ok(name) = cdb_name(alloc, &words.table) else {
         return NO_MEMORY;
     };
     match build(alloc, words, repeats, warned, files) {
