@@ -7,7 +7,9 @@
 //! `results` the text of a table, and its results parted by `,`, or `anything`; of the kind `repeat` a number, on the next
 //! line a text before, on the third one that is as often as that, and on the fourth one after, which together are a
 //! table, and the answer as of the kind `table`; of the kind `deep` how deep the groups of a pattern are nested, and the answer
-//! as of the kind `table`. Rows that begin with `# ` are comments.
+//! as of the kind `table`; of the kind `keys` how often all keys are asked, on the next line the keys parted by `~`, and from
+//! the third line on the text of a table, and the values of the keys parted by `~`, of which `nothing` is none. Rows that begin
+//! with `# ` are comments.
 #![tactic(auto)]
 
 use pf_asks::{Found, Results};
@@ -90,6 +92,46 @@ fn results(alloc: Global, text: &[u8]) -> Result<Bytes, NoMemory> {
     }
 }
 
+// The values of keys parted by tildes.
+fn values(alloc: Global, table: &mut PcreTable, keys: &[u8]) -> Result<Bytes, NoMemory> {
+    let mut values = Bytes::new(alloc);
+    for (i, key) in keys.split(|b| *b == b'~').enumerate() {
+        if i > 0 {
+            values.push(b'~')?;
+        }
+        match table.find(alloc, key)? {
+            Found::Value(value) => values.extend(value.as_slice())?,
+            Found::Absent => values.extend(b"nothing")?,
+        }
+    }
+    Ok(values)
+}
+
+// What a table says of keys that are asked so often.
+fn asked(alloc: Global, text: &[u8]) -> Result<Bytes, NoMemory> {
+    let (times, rest) = parted(text);
+    let (keys, text) = parted(rest);
+    let mut patterns = Patterns::new();
+    match PcreTable::read(alloc, FILE, text, &mut patterns) {
+        Ok(mut table) => {
+            let mut said = Bytes::new(alloc);
+            for _ in 0..number(times) {
+                said = values(alloc, &mut table, keys)?;
+            }
+            Ok(said)
+        }
+        Err(fault) => refusal(alloc, &fault),
+    }
+}
+
+// The number that a text writes, or 0.
+fn number(text: &[u8]) -> u32 {
+    match str::from_utf8(text) {
+        Ok(text) => text.parse::<u32>().unwrap_or(0),
+        Err(_) => 0,
+    }
+}
+
 // The first line of a text, and the others.
 fn parted(text: &[u8]) -> (&[u8], &[u8]) {
     cut_at(text, b'\n').unwrap_or((text, b""))
@@ -97,17 +139,13 @@ fn parted(text: &[u8]) -> (&[u8], &[u8]) {
 
 // A text in which one part is so often.
 fn repeated(alloc: Global, text: &[u8]) -> Result<Bytes, NoMemory> {
-    let (number, rest) = parted(text);
+    let (times, rest) = parted(text);
     let (before, rest) = parted(rest);
     let (part, behind) = parted(rest);
     let mut text = Bytes::from_slice(alloc, before)?;
-    if let Ok(number) = str::from_utf8(number) {
-        if let Ok(number) = number.parse::<u16>() {
-            for _ in 0..number {
-                for b in part {
-                    text.push(if *b == b'~' { b'\n' } else { *b })?;
-                }
-            }
+    for _ in 0..number(times) {
+        for b in part {
+            text.push(if *b == b'~' { b'\n' } else { *b })?;
         }
     }
     text.extend(behind)?;
@@ -117,15 +155,11 @@ fn repeated(alloc: Global, text: &[u8]) -> Result<Bytes, NoMemory> {
 // A table whose pattern is groups in groups, nested so deep.
 fn nested(alloc: Global, text: &[u8]) -> Result<Bytes, NoMemory> {
     let mut table = Bytes::from_slice(alloc, b"/")?;
-    if let Ok(number) = str::from_utf8(text) {
-        if let Ok(number) = number.parse::<u16>() {
-            for _ in 0..number {
-                table.push(b'(')?;
-            }
-            for _ in 0..number {
-                table.push(b')')?;
-            }
-        }
+    for _ in 0..number(text) {
+        table.push(b'(')?;
+    }
+    for _ in 0..number(text) {
+        table.push(b')')?;
     }
     table.extend(b"/ y")?;
     Ok(table)
@@ -144,6 +178,7 @@ fn said(alloc: Global, kind: &str, text: &[u8]) -> Result<Bytes, NoMemory> {
             let key = octets(alloc, key)?;
             found(alloc, key.as_slice(), table)
         }
+        "keys" => asked(alloc, text),
         "results" => results(alloc, text),
         "repeat" => {
             let text = repeated(alloc, text)?;

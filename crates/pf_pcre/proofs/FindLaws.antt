@@ -4,8 +4,8 @@ use Rattle.std.proofs.lemmas.Bool.{and_parts, ne_eqb}
 use Rattle.std.specs.List.{list_all}
 use Rattle.pf_pcre.specs.Clauses.Steps.{stepped}
 use Rattle.pf_pcre.specs.Tables.{first_of, first_value, holds, rule_value, rules_of}
-use Rattle.pf_pcre.specs.declared.entries.Step.{Step}
-use Rattle.pf_pcre.specs.declared.entries.Step.TheVariants.{Found, On}
+use Rattle.pf_pcre.specs.declared.parts.Step.{Step}
+use Rattle.pf_pcre.specs.declared.parts.Step.TheVariants.{Found, On}
 use Rattle.pf_pcre.specs.declared.entry.Condition.{Condition}
 use Rattle.pf_pcre.specs.declared.entry.Entry.{Entry}
 use Rattle.pf_pcre.specs.declared.entry.Entry.TheVariants.{Endif, If, Rule}

@@ -21,13 +21,13 @@ use Rattle.regex_syntax.specs.Grammar.{Names, group_count, read}
 use Rattle.regex_syntax.specs.declared.error.ErrorKind.{ErrorKind}
 use Rattle.regex_syntax.specs.declared.error.ErrorKind.TheVariants.{NestLimitExceeded, OutOfMemory}
 use Rattle.regex_syntax.proofs.CapturesLemmas.{find_str_alike}
-use Rattle.pf_pcre.specs.Patterns.{IsRead, Seen, Written, config_of, expanded, found, groups_in, groups_of, seen_of, span_of}
+use Rattle.pf_pcre.specs.Patterns.{IsRead, Seen, Written, config_of, expanded, found, groups_in, groups_of, seen_of, span_of, value_of}
 use Rattle.pf_pcre.specs.Clauses.Built.{IsRegexOf}
 use Rattle.pf_pcre.specs.declared.pieces.Piece.{Piece}
 use Rattle.pf_pcre.specs.declared.switches.Switches.{Switches}
 use Rattle.pf_pcre.proofs.Cases.{either_way}
 
-alike_in : (o : IsRead) (most : ℕ) (a : Re) (names : Names) (text : List ℕ) → All (λ x. x < 256) text →
+pub alike_in : (o : IsRead) (most : ℕ) (a : Re) (names : Names) (text : List ℕ) → All (λ x. x < 256) text →
     IsSomeAnd o (λ (re, these). (re.depth ≤ most) × SameCaptures a re.value × (names ≡ these) × (group_count a ≤ length names)) →
     option_map seen_of (find_str a text 0) ≡ option_and_then (λ p. option_map seen_of (find_str p.0.value text 0)) o
 alike_in None most a names text bytes h = absurd h
@@ -125,32 +125,14 @@ pub no_text : (switches : Switches) (text : List ℕ) → (IsUtf8 text → ⊥) 
 unfolding groups_of
 no_text switches text none = either_way (is_utf8 text) (λ is. absurd (none (IsUtf8-from_is_utf8 text is))) (λ is. rw is)
 
-is_some_map : {A B : Type 0} (f : A → B) (o : Option A) → is_some (option_map f o) ≡ is_some o
-is_some_map f None = refl
-is_some_map f (Some x) = refl
-
--- a search for a regex finds what its text finds
-pub found_same : (switches : Switches) (regex : Regex) (re : Re) (text : List ℕ) → IsRegexOf switches regex → ((k : ℕ) → get_or text k 0 < 256)
-    → re ≡ regex_pattern regex → (o : Option Match) → find_str re text 0 ≡ o → found (written_of switches regex) text ≡ option_map seen_of o
-found_same switches regex re text is bytes same o at =
-    sym (found_by_text switches regex is text bytes) ∙ ap (λ r. option_map seen_of (find_str r text 0)) (sym same) ∙ ap (option_map seen_of) at
-
-pub matches_are : (switches : Switches) (regex : Regex) (re : Re) (text : List ℕ) → IsRegexOf switches regex → ((k : ℕ) → get_or text k 0 < 256)
-    → re ≡ regex_pattern regex → (b : Bool) → b ≡ is_some (find_str re text 0) → b ≡ is_some (found (written_of switches regex) text)
-matches_are switches regex re text is bytes same b at =
-    at ∙ sym (is_some_map seen_of (find_str re text 0)) ∙ ap is_some (sym (found_same switches regex re text is bytes same (find_str re text 0) refl))
-
--- the value of a match, and of none
-abbrev value_of : List ℕ → List Piece → Option Seen → Option (List ℕ)
-value_of text pieces seen = option_map (λ s. expanded text (span_of s) pieces) seen
-
-pub some_value : (switches : Switches) (regex : Regex) (re : Re) (text : List ℕ) → IsRegexOf switches regex → ((k : ℕ) → get_or text k 0 < 256)
-    → re ≡ regex_pattern regex → (m : Match) → find_str re text 0 ≡ Some m → (captures : Captures) → IsCapturesOf text m captures → (pieces : List Piece) (value : List ℕ)
-    → value ≡ expanded (captures_haystack captures) (captures_span captures) pieces → Some value ≡ value_of text pieces (found (written_of switches regex) text)
-some_value switches regex re text is bytes same m at captures of pieces value given =
+-- the value of a match
+pub some_value : (re pattern : Re) (text : List ℕ) → re ≡ pattern → (m : Match) → find_str re text 0 ≡ Some m → (captures : Captures) → IsCapturesOf text m captures
+    → (pieces : List Piece) (value : List ℕ) → value ≡ expanded (captures_haystack captures) (captures_span captures) pieces
+    → Some value ≡ value_of text pieces (option_map seen_of (find_str pattern text 0))
+some_value re pattern text same m at captures of pieces value given =
     ap Some (given ∙ ap (λ t. expanded t (captures_span captures) pieces) of.0 ∙ ap (λ spans. expanded text spans pieces) (spans_are text m captures of))
-    ∙ ap (value_of text pieces) (sym (found_same switches regex re text is bytes same (Some m) at))
+    ∙ ap (λ o. value_of text pieces (option_map seen_of o)) (sym at ∙ ap (λ r. find_str r text 0) same)
 
-pub no_value : (switches : Switches) (regex : Regex) (re : Re) (text : List ℕ) → IsRegexOf switches regex → ((k : ℕ) → get_or text k 0 < 256)
-    → re ≡ regex_pattern regex → find_str re text 0 ≡ None → (pieces : List Piece) → None ≡ value_of text pieces (found (written_of switches regex) text)
-no_value switches regex re text is bytes same at pieces = ap (value_of text pieces) (sym (found_same switches regex re text is bytes same None at))
+pub is_some_seen : (o : Option Match) → is_some o ≡ is_some (option_map seen_of o)
+is_some_seen None = refl
+is_some_seen (Some m) = refl

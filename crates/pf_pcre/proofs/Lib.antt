@@ -6,8 +6,11 @@ pub mod FoundLemmas
 pub mod KeyLemmas
 pub mod LineLemmas
 pub mod NumberLemmas
+pub mod PartLaws
 pub mod PieceLaws
 pub mod ResultLaws
 pub mod Rows
+pub mod RunLemmas
+pub mod SieveLemmas
 pub mod TableLemmas
 pub mod TakingLaws

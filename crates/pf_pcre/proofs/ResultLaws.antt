@@ -1,5 +1,5 @@
 -- Each value that a table of patterns has at some key is among its results.
-use Rattle.std.proofs.Common.{◌≡◌, ◌||◌, ℕ, Bool, true, false, List, [], ◌∷◌, ◌++◌, Option, Some, None, refl, sym, ap, ◌∙◌}
+use Rattle.std.proofs.Common.{◌≡◌, ◌||◌, ℕ, Bool, true, false, List, [], ◌∷◌, Option, Some, None, refl, sym, ap, ◌∙◌}
 use Rattle.std.specs.Prelude.{if◌then◌else◌, is_some, option_map}
 use Rattle.std.proofs.lemmas.Slice.Eq.{bytes_eq-Decides}
 use Rattle.std.specs.List.{flat_map, list_all, list_any}
@@ -8,7 +8,6 @@ use Rattle.std.specs.Str.{bytes_eq}
 use Rattle.std.specs.Str.Lossy.{utf8_lossy}
 use Rattle.pf_asks.specs.declared.lookup.Found.TheVariants.{Value}
 use Rattle.pf_asks.specs.Looking.{HasAll, IsAmong}
-use Rattle.pf_asks.specs.declared.lookup.Results.{Results}
 use Rattle.pf_asks.specs.declared.lookup.Results.TheVariants.{Anything, Listed}
 use Rattle.pf_pcre.specs.Patterns.{Seen, expanded, found, span_of}
 use Rattle.pf_pcre.specs.Tables.{entry_values, first_of, first_value, found_as, has_group, holds, names_group, pcre_meaning, plain_value, results_of, rule_value, rules_of}
@@ -90,7 +89,3 @@ unfolding results_of
 has_all entries key value is =
     let e : found_as (first_value entries (utf8_lossy key)) ≡ Value value = cc in
     has entries (utf8_lossy key) value (found_value _ value e) (list_any has_group entries) refl
-
--- what comes of further entries after results
-abbrev pub results_behind : List (List ℕ) → List Entry → Results
-results_behind values entries = if list_any has_group entries then Anything else Listed (values ++ flat_map entry_values entries)

@@ -87,3 +87,7 @@ piece_text text spans (Group group) = text_at text (spans group)
 
 abbrev pub expanded : List ℕ → (ℕ → Option (ℕ × ℕ)) → List Piece → List ℕ
 expanded text spans pieces = flat_map (piece_text text spans) pieces
+
+-- a result with the groups of a match
+abbrev pub value_of : List ℕ → List Piece → Option Seen → Option (List ℕ)
+value_of text pieces seen = option_map (λ s. expanded text (span_of s) pieces) seen

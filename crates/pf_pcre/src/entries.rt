@@ -1,91 +1,54 @@
-//! Rules and conditions in order.
-ghost use Rattle.std.specs.Prelude.{◌≡◌, ◌-◌, ◌<◌, ◌^◌, [], ◌∷◌, ◌++◌, IfOk, OnOk};
-ghost use Rattle.pf_pcre.specs.Clauses.Steps.{stepped};
-ghost use Rattle.pf_pcre.specs.Tables as tables;
+//! Rules and conditions in order, as they are read.
+ghost use Rattle.std.specs.Prelude.{◌≡◌, [], ◌∷◌, ◌++◌, map, IfOk, OnOk};
+ghost use Rattle.pf_pcre.specs.Clauses.Steps.{all_said, said_of};
+ghost use Rattle.pf_pcre.specs.declared.entry.Entry.TheVariants.{Rule as RuleSaid};
 
-use crate::entry::{Entry, plain_value};
-use crate::pieces::Piece;
-use pf_asks::Results;
-use pf_base::{Bytes, List, NoMemory};
+use crate::entry::{Entry, Rule};
+use crate::parts::{Part, Parts};
+use crate::run::{Run, sieve_of};
+use pf_base::NoMemory;
 use std::alloc::Global;
 use std::marker::Model;
+use std::mem;
 
-/// Rules and conditions in order.
+/// The most rules that one sieve stands for.
+const MOST_IN_RUN: usize = 32;
+
+/// What was read: parts, and the rules after them that are in no part yet.
 #[derive(Drop)]
 pub(crate) struct Entries {
-    items: Vec<Entry>,
+    parts: Vec<Part>,
+    waiting: Vec<Rule>,
 }
 
 impl Model for Entries {
-    ghost use Rattle.std.specs.Prelude.{List as Seq};
+    ghost use Rattle.std.specs.Prelude.{List as Seq, ◌++◌, map};
+    ghost use Rattle.pf_pcre.specs.Clauses.Steps.{all_said};
     ghost use Rattle.pf_pcre.specs.declared.entry.Entry.{Entry as Said};
+    ghost use Rattle.pf_pcre.specs.declared.entry.Entry.TheVariants.{Rule as RuleSaid};
 
     ghost Value = { Seq Said };
 
-    ghost view = { λ entries. entries.items.items };
+    ghost view = { λ entries. all_said entries.parts.items ++ map RuleSaid entries.waiting.items };
 }
 
-// How a search goes on after an entry.
-#[derive(Drop)]
-pub(crate) enum Step {
-    // This is the value.
-    Found(Bytes),
-    // So many of the open conditions are passed over: those from the first on that does not hold.
-    On(u64),
-}
-
-// One entry of a search.
-fn look_at(alloc: Global, entry: &mut Entry, text: &str, skipped: u64) -> Result<Step, NoMemory>
-    requires { skipped < 2 ^ 64 - 1 }
-    ensures value { IfOk result (λ step. step ≡ stepped text.now skipped entry.old) }
-    ensures same { entry.new ≡ entry.old }
+fn add_part(parts: &mut Vec<Part>, part: Part) -> Result<(), NoMemory>
+    ensures { OnOk result (parts.new.items ≡ parts.old.items ++ part ∷ []) }
 {
-    match entry {
-        Entry::Rule(rule) => {
-            if skipped != 0 {
-                return Ok(Step::On(skipped));
-            }
-            match rule.value(alloc, text)? {
-                Some(value) => Ok(Step::Found(value)),
-                None => Ok(Step::On(0)),
-            }
-        }
-        Entry::If(condition) => {
-            if skipped != 0 {
-                return Ok(Step::On(skipped + 1));
-            }
-            if condition.holds(alloc, text)? {
-                Ok(Step::On(0))
-            } else {
-                Ok(Step::On(1))
-            }
-        }
-        Entry::Endif => Ok(Step::On(skipped.saturating_sub(1))),
+    parts.push(part)?;
+    Ok(())
+}
+
+// Rules as one part, if there are any.
+#[tactic(auto, using(crate::proofs::PartLaws::said_more))]
+fn add_rules(alloc: Global, parts: &mut Vec<Part>, rules: Vec<Rule>) -> Result<(), NoMemory>
+    ensures { OnOk result (all_said parts.new.items ≡ all_said parts.old.items ++ map RuleSaid rules.items) }
+{
+    if rules.is_empty() {
+        return Ok(());
     }
-}
-
-fn first_value_in(
-    alloc: Global,
-    items: &mut Vec<Entry>,
-    text: &str,
-) -> Result<Option<Bytes>, NoMemory>
-    ensures value { IfOk result (λ value. value ≡ tables.first_value items.old.items text.now) }
-    ensures same { items.new.items ≡ items.old.items }
-{
-    let mut skipped: u64 = 0;
-    for place in 0..items.len() {
-        match look_at(alloc, &mut items[place], text, skipped)? {
-            Step::Found(value) => return Ok(Some(value)),
-            Step::On(next) => skipped = next,
-        }
-    }
-    Ok(None)
-}
-
-fn has_group(pieces: &[Piece]) -> bool
-    ensures { result ≡ tables.names_group pieces.now }
-{
-    pieces.iter().any(|piece| matches!(piece, Piece::Group(_)))
+    let sieve = sieve_of(alloc, rules.as_slice())?;
+    add_part(parts, Part::Run(Run::new(rules, sieve)))
 }
 
 impl Entries {
@@ -93,47 +56,68 @@ impl Entries {
         ensures { result ≡ [] }
     {
         Entries {
-            items: Vec::new(alloc),
+            parts: Vec::new(alloc),
+            waiting: Vec::new(alloc),
         }
     }
 
-    pub(crate) fn push(&mut self, entry: Entry) -> Result<(), NoMemory>
-        ensures { OnOk result (self.new ≡ self.old ++ entry ∷ []) }
+    // The rules that are in no part yet become one.
+    fn close(&mut self, alloc: Global) -> Result<(), NoMemory>
+        ensures { OnOk result (self.new ≡ self.old) }
     {
-        self.items.push(entry)?;
+        let rules = mem::replace(&mut self.waiting, Vec::new(alloc));
+        add_rules(alloc, &mut self.parts, rules)
+    }
+
+    #[tactic(auto, using(crate::proofs::PartLaws::said_more))]
+    fn push_part(&mut self, alloc: Global, part: Part) -> Result<(), NoMemory>
+        ensures { OnOk result (self.new ≡ self.old ++ said_of part) }
+    {
+        let rules = mem::replace(&mut self.waiting, Vec::new(alloc));
+        add_rules(alloc, &mut self.parts, rules)?;
+        add_part(&mut self.parts, part)
+    }
+
+    // Whether a rule begins a run: enough rules are before it, or it or the one before it is negated, for which no sieve
+    // stands.
+    fn begins_run(&self, rule: &Rule) -> bool {
+        match self.waiting.last() {
+            None => false,
+            Some(before) => {
+                self.waiting.len() >= MOST_IN_RUN
+                    || before.condition.negated
+                    || rule.condition.negated
+            }
+        }
+    }
+
+    #[tactic(auto, using(crate::proofs::PartLaws::rule_more))]
+    fn push_rule(&mut self, alloc: Global, rule: Rule) -> Result<(), NoMemory>
+        ensures { OnOk result (self.new ≡ self.old ++ RuleSaid rule ∷ []) }
+    {
+        if self.begins_run(&rule) {
+            self.close(alloc)?;
+        }
+        self.waiting.push(rule)?;
         Ok(())
     }
 
-    /// The value of the first rule that applies to a text: its own pattern and all conditions round it do.
-    pub(crate) fn first_value(
-        &mut self,
-        alloc: Global,
-        text: &str,
-    ) -> Result<Option<Bytes>, NoMemory>
-        ensures value { IfOk result (λ value. value ≡ tables.first_value self.old text.now) }
-        ensures same { self.new ≡ self.old }
+    pub(crate) fn push(&mut self, alloc: Global, entry: Entry) -> Result<(), NoMemory>
+        ensures { OnOk result (self.new ≡ self.old ++ entry ∷ []) }
     {
-        first_value_in(alloc, &mut self.items, text)
+        match entry {
+            Entry::Rule(rule) => self.push_rule(alloc, rule),
+            Entry::If(condition) => self.push_part(alloc, Part::If(condition)),
+            Entry::Endif => self.push_part(alloc, Part::Endif),
+        }
     }
 
-    /// The results of the rules in order; any value where one of them names a group.
-    #[tactic(auto, unfolding(crate::specs::Tables::results_of))]
-    pub(crate) fn results(&self, alloc: Global) -> Result<Results, NoMemory>
-        ensures { IfOk result (λ results. results ≡ tables.results_of self.now) }
+    /// The parts of all that was read.
+    pub(crate) fn finish(self, alloc: Global) -> Result<Parts, NoMemory>
+        ensures { IfOk result (λ parts. parts ≡ self) }
     {
-        let mut values = List::new(alloc);
-        for entry in &self.items {
-            match entry {
-                Entry::Rule(rule) => {
-                    if has_group(rule.pieces.as_slice()) {
-                        return Ok(Results::Anything);
-                    }
-                    values.push(plain_value(alloc, rule.pieces.as_slice())?)?;
-                }
-                Entry::If(_) => {}
-                Entry::Endif => {}
-            }
-        }
-        Ok(Results::Listed(values))
+        let Entries { mut parts, waiting } = self;
+        add_rules(alloc, &mut parts, waiting)?;
+        Ok(Parts::new(parts))
     }
 }

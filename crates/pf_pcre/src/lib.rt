@@ -4,12 +4,17 @@
 mod entries;
 mod entry;
 mod expand;
+mod finder;
 mod line;
+mod parts;
 mod pattern;
 mod patterns;
 mod pieces;
 mod reason;
+mod run;
 mod shape;
+mod sieve;
+mod spans;
 mod switches;
 mod table;
 

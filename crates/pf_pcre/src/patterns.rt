@@ -1,14 +1,17 @@
 //! The patterns of tables (pcre_table(5)), built by the crate regex.
-ghost use Rattle.std.specs.Prelude.{◌≡◌, ◌≤◌};
+ghost use Rattle.std.specs.Prelude.{◌≡◌, ◌≢◌, ◌≤◌, IfErr, IfOk};
 ghost use Rattle.pf_base.specs.Clauses.Unless.{Unless};
 ghost use Rattle.pf_asks.specs.Clauses.Causes.{counted_if};
 ghost use Rattle.pf_pcre.specs.Patterns as spec;
-ghost use Rattle.pf_pcre.specs.Clauses.Built.{IsAnswerOf};
+ghost use Rattle.regex_meta.specs.Programs.{pattern_of};
+ghost use Rattle.pf_pcre.specs.Clauses.Built.{Finds, IsAnswerOf};
 ghost use Rattle.pf_pcre.specs.Clauses.Sizes.{is_size, is_too_large};
 
+use crate::finder::Finder;
 use crate::pattern::Pattern;
 use crate::switches::Switches;
 use regex::{Error, Regex, RegexBuilder};
+use regex_syntax::{Config, Flags};
 use std::alloc::Global;
 use std::marker::Model;
 
@@ -65,6 +68,56 @@ fn regex_of(alloc: Global, pattern: &str, switches: &Switches) -> Result<Regex, 
         .build(alloc)
 }
 
+// The options of the crate regex that are meant by switches.
+fn config_of(switches: &Switches) -> Config
+    ensures { result ≡ spec.config_of switches.now }
+{
+    Config {
+        flags: Flags {
+            case_insensitive: switches.case,
+            multi_line: switches.lines,
+            dot_matches_new_line: switches.dot,
+            swap_greed: switches.greed,
+            unicode: true,
+            crlf: false,
+            ignore_whitespace: switches.free,
+        },
+        ..Config::default()
+    }
+}
+
+// The finder of a pattern that was built.
+fn finder_of(alloc: Global, pattern: &str, switches: &Switches) -> Result<Finder, BuildFault>
+    ensures finds { IfOk result (λ finder. ∥ Finds (pattern_of finder.program) (record { switches = switches.now; text = pattern.now }) ∥₁) }
+    ensures no_syntax { IfErr result (λ fault. fault ≢ BuildFault.Syntax) }
+{
+    // The crate regex has read the text, so only memory can be wanting.
+    let Ok(parsed) = regex_syntax::parse(alloc, pattern, &config_of(switches)) else {
+        return Err(BuildFault::NoMemory);
+    };
+    let Ok(groups) = u32::try_from(parsed.names.len()) else {
+        return Err(BuildFault::TooLarge);
+    };
+    match Finder::new(alloc, parsed.hir, groups) {
+        Ok(finder) => Ok(finder),
+        Err(regex_compile::Error::TooBig) => Err(BuildFault::TooLarge),
+        Err(_) => Err(BuildFault::NoMemory),
+    }
+}
+
+// The pattern of a text with switches.
+fn pattern_of(alloc: Global, pattern: &str, switches: &Switches) -> Result<Pattern, BuildFault>
+    ensures { Unless result BuildFault.NoMemory (λ r. r ≡ spec.built_of (is_too_large r) (record { switches = switches.now; text = pattern.now })) }
+{
+    match regex_of(alloc, pattern, switches) {
+        Ok(regex) => match finder_of(alloc, pattern, switches) {
+            Ok(finder) => Ok(Pattern::new(*switches, regex, finder)),
+            Err(fault) => Err(fault),
+        },
+        Err(error) => Err(BuildFault::from(error)),
+    }
+}
+
 impl Patterns {
     /// Nothing is counted yet.
     pub fn new() -> Patterns
@@ -84,10 +137,9 @@ impl Patterns {
         ensures built { Unless result BuildFault.NoMemory (λ r. r ≡ spec.built_of (is_too_large r) (record { switches = switches.now; text = pattern.now })) }
         ensures counts { self.new ≡ counted_if (is_too_large result) self.old }
     {
-        match regex_of(alloc, pattern, switches) {
-            Ok(regex) => Ok(Pattern::new(*switches, regex)),
-            Err(error) => {
-                let fault = BuildFault::from(error);
+        match pattern_of(alloc, pattern, switches) {
+            Ok(pattern) => Ok(pattern),
+            Err(fault) => {
                 self.note(fault);
                 Err(fault)
             }

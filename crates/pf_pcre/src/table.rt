@@ -11,6 +11,7 @@ ghost use Rattle.std.specs.Prelude.{Some};
 use crate::entries::Entries;
 use crate::entry::{Condition, Entry, Rule};
 use crate::line::{LineFault, entry_of};
+use crate::parts::Parts;
 use crate::patterns::Patterns;
 use crate::reason::Reason;
 use bstr::ByteSlice;
@@ -27,7 +28,7 @@ const MOST_RULES: u64 = 500;
 /// A table of patterns: rules in order, each with a result, and the conditions round them (pcre_table(5)).
 #[derive(Drop)]
 pub struct PcreTable {
-    entries: Entries,
+    parts: Parts,
 }
 
 impl Model for PcreTable {
@@ -36,7 +37,7 @@ impl Model for PcreTable {
 
     ghost Value = { Seq Said };
 
-    ghost view = { λ table. table.entries };
+    ghost view = { λ table. table.parts };
 }
 
 // A refusal.
@@ -79,34 +80,39 @@ impl Reading {
     }
 
     // A rule, unless there are too many.
-    fn add_rule(&mut self, rule: Rule) -> Result<(), LineFault>
+    fn add_rule(&mut self, alloc: Global, rule: Rule) -> Result<(), LineFault>
         ensures { taking.Leaves (taking.added_rule self.old rule) self.new result }
     {
+        if let Err(NoMemory) = self.entries.push(alloc, Entry::Rule(rule)) {
+            return Err(LineFault::NoMemory);
+        }
         if self.rules >= MOST_RULES {
             return Err(LineFault::Refused(Reason::TooManyRules));
         }
         self.rules += 1;
-        match self.entries.push(Entry::Rule(rule)) {
-            Ok(()) => Ok(()),
-            Err(NoMemory) => Err(LineFault::NoMemory),
-        }
+        Ok(())
     }
 
     // A condition, which is open.
-    fn add_condition(&mut self, line: u64, condition: Condition) -> Result<(), NoMemory>
+    fn add_condition(
+        &mut self,
+        alloc: Global,
+        line: u64,
+        condition: Condition,
+    ) -> Result<(), NoMemory>
         ensures { OnOk result (self.new ≡ taking.with_condition self.old line condition) }
     {
-        self.pending.push(line)?;
-        self.entries.push(Entry::If(condition))
+        self.entries.push(alloc, Entry::If(condition))?;
+        self.pending.push(line)
     }
 
     // The end of the last condition that is open.
-    fn close(&mut self) -> Result<(), LineFault>
+    fn close(&mut self, alloc: Global) -> Result<(), LineFault>
         ensures { taking.Leaves (taking.closed self.old) self.new result }
     {
         match self.pending.pop() {
             None => Err(LineFault::Refused(Reason::EndifWithoutIf)),
-            Some(_) => match self.entries.push(Entry::Endif) {
+            Some(_) => match self.entries.push(alloc, Entry::Endif) {
                 Ok(()) => Ok(()),
                 Err(NoMemory) => Err(LineFault::NoMemory),
             },
@@ -114,17 +120,17 @@ impl Reading {
     }
 
     // What a line says.
-    fn add(&mut self, line: u64, entry: Entry) -> Result<(), LineFault>
+    fn add(&mut self, alloc: Global, line: u64, entry: Entry) -> Result<(), LineFault>
         ensures is { taking.Leaves (taking.taken self.old line entry) self.new result }
         ensures small { is_large result ≡ false }
     {
         match entry {
-            Entry::Rule(rule) => self.add_rule(rule),
-            Entry::If(condition) => match self.add_condition(line, condition) {
+            Entry::Rule(rule) => self.add_rule(alloc, rule),
+            Entry::If(condition) => match self.add_condition(alloc, line, condition) {
                 Ok(()) => Ok(()),
                 Err(NoMemory) => Err(LineFault::NoMemory),
             },
-            Entry::Endif => self.close(),
+            Entry::Endif => self.close(alloc),
         }
     }
 
@@ -140,7 +146,7 @@ impl Reading {
     {
         match entry_of(alloc, patterns, text) {
             Err(fault) => Err(fault),
-            Ok(entry) => self.add(line, entry),
+            Ok(entry) => self.add(alloc, line, entry),
         }
     }
 
@@ -157,7 +163,10 @@ impl Reading {
             rules: _,
             pending: _,
         } = self;
-        Ok(PcreTable { entries })
+        match entries.finish(alloc) {
+            Ok(parts) => Ok(PcreTable { parts }),
+            Err(NoMemory) => Err(ConfFault::NoMemory),
+        }
     }
 }
 
@@ -217,7 +226,7 @@ impl PcreTable {
         ensures same { self.new ≡ self.old }
     {
         let text = key.to_str_lossy(alloc)?;
-        match self.entries.first_value(alloc, text.as_str())? {
+        match self.parts.first_value(alloc, text.as_str())? {
             Some(value) => Ok(Found::Value(value)),
             None => Ok(Found::Absent),
         }
@@ -229,6 +238,6 @@ impl PcreTable {
         ensures listed { IfOk result (λ results. results ≡ (tables.pcre_meaning self.now).results) }
         ensures all { HasAll (tables.pcre_meaning self.now) }
     {
-        self.entries.results(alloc)
+        self.parts.results(alloc)
     }
 }

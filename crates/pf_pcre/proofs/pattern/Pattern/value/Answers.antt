@@ -1,16 +1,21 @@
-use Rattle.pf_pcre.proofs.FoundLemmas.{no_value, some_value}
+use Rattle.std.proofs.Common.{◌∙◌, ap}
+use Rattle.std.proofs.lemmas.Result.{IfOk-weaker}
+use Rattle.pf_pcre.specs.Patterns.{value_of}
+use Rattle.regex_meta.specs.Programs.{pattern_of}
+use Rattle.pf_pcre.proofs.FoundLemmas.{found_by_text}
+use Rattle.pf_pcre.proofs.SieveLemmas.{seen_alike, still}
 use Rattle.pf_pcre.proofs.pattern.Pattern.value.Goals as goal
 
-pub returns-in-Some-clause-value : goal.returns-in-Some-clause-value
-returns-in-Some-clause-value c =
-    let found = c.in-Some.ensures.found in
-    let given = rw c.new-value.ensures at c.in_ok-expand-in-Some.ensures in
-    rw (← c.self.view_is)
-    (some_value c.self.inside.switches c.self.inside.regex _ c.args.text.now c.self.invariant (λ k. (c.type_inv.text k).fits)
-    c.in_ok-matcher.ensures.pattern found.0 found.1 c.in-Some.captures found.2 c.args.pieces.now _ given)
+pub seen_value-requires : goal.seen_value-requires
+seen_value-requires c =
+    rw c.as_slice.ensures.value (seen_alike c.self.inside.switches c.self.inside.regex (pattern_of c.self.inside.finder.program) c.args.text.now c.self.invariant (λ k. (c.type_inv.text k).fits) _ _ c.look-sight.ensures.seen)
+
+pub invariant_of-self : goal.invariant_of-self
+invariant_of-self c = still c.self.inside.switches c.self.inside.regex c.self.inside.finder.program c.look-sight.new.self.program c.look-sight.ensures.same c.self.invariant
 
 pub returns-clause-value : goal.returns-clause-value
 returns-clause-value c =
+    IfOk-weaker c.seen_value.result _ _ (λ value is.
     rw (← c.self.view_is)
-    (no_value c.self.inside.switches c.self.inside.regex _ c.args.text.now c.self.invariant (λ k. (c.type_inv.text k).fits)
-    c.in_ok-matcher.ensures.pattern c.in-None.ensures.found c.args.pieces.now)
+    (is ∙ ap (value_of c.args.text.now c.args.pieces.now) (found_by_text c.self.inside.switches c.self.inside.regex c.self.invariant.built c.args.text.now (λ k. (c.type_inv.text k).fits))))
+    c.seen_value.ensures
