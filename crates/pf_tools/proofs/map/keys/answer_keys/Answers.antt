@@ -1,4 +1,4 @@
-use Rattle.std.proofs.Common.{length-take, refl, ap, ◌∙◌, arith}
+use Rattle.std.proofs.Common.{length-take, refl, ◌∙◌, arith}
 use Rattle.pf_tools.proofs.KeyLaws.{budget_here, ends_here, fault_here, passed_means, passed_more, passed_none}
 use Rattle.pf_tools.specs.Clauses.Opened.{meant}
 use Rattle.pf_tools.proofs.map.keys.answer_keys.Goals as goal

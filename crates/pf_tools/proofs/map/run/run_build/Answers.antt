@@ -1,8 +1,15 @@
-use Rattle.std.proofs.Common.{codes, refl}
-use Rattle.std.proofs.lemmas.Str.{IsUtf8-append, IsUtf8-from_is_utf8}
+use Rattle.std.proofs.Common.{IsAscii, zero, suc, codes, refl, arith}
+use Rattle.std.proofs.lemmas.Str.{IsUtf8-append, IsUtf8-from_ascii}
 use Rattle.pf_tools.proofs.MapLaws.{took_put, took_starved, took_unbuilt}
 use Rattle.pf_tools.specs.Map.Built.{text_name}
 use Rattle.pf_tools.proofs.map.run.run_build.Goals as goal
+
+ending : IsAscii (codes ".cdb")
+ending zero = omega arith
+ending (suc zero) = omega arith
+ending (suc (suc zero)) = omega arith
+ending (suc (suc (suc zero))) = omega arith
+ending (suc (suc (suc (suc i)))) = omega arith
 
 pub returns-in_default : goal.returns-in_default
 returns-in_default g c = λ input out mail. took_starved c.args.words.now _
@@ -10,7 +17,7 @@ returns-in_default g c = λ input out mail. took_starved c.args.words.now _
 pub put_built-requires : goal.put_built-requires
 put_built-requires g c =
     rw (c.as_slice.ensures, c.in-Ok.ensures)
-    (IsUtf8-append (text_name c.args.words.now.table) (codes ".cdb") c.in-Ok-build.ensures.text (IsUtf8-from_is_utf8 (codes ".cdb") refl))
+    (IsUtf8-append (text_name c.args.words.now.table) (codes ".cdb") c.in-Ok-build.ensures.text (IsUtf8-from_ascii (codes ".cdb") ending))
 
 pub returns-in-Ok-build : goal.returns-in-Ok-build
 returns-in-Ok-build g c = λ input out mail.

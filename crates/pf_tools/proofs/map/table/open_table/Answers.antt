@@ -1,4 +1,3 @@
-use Rattle.pf_maps.specs.Clauses.Opened.{Opens}
 use Rattle.pf_tools.proofs.map.table.open_table.Goals as goal
 
 pub returns : goal.returns

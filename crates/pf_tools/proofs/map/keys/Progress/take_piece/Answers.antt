@@ -1,5 +1,5 @@
-use Rattle.std.proofs.Common.{subst, ◌∙◌}
-use Rattle.pf_tools.proofs.KeyLaws.{comes_down_line, comes_down_none}
+use Rattle.std.proofs.Common.{◌∙◌}
+use Rattle.pf_tools.proofs.KeyLaws.{comes_down_line}
 use Rattle.pf_tools.specs.Clauses.Opened.{meant}
 use Rattle.pf_tools.proofs.map.keys.Progress.take_piece.Goals as goal
 
