@@ -91,7 +91,11 @@ fn add_job(said: &mut Bytes, job: &MapJob) -> Result<(), NoMemory> {
                 Repeats::First => b" first".as_slice(),
                 Repeats::Last => b" last".as_slice(),
             })?;
-            said.extend(if *warned { b" warned".as_slice() } else { b"".as_slice() })
+            said.extend(if *warned {
+                b" warned".as_slice()
+            } else {
+                b"".as_slice()
+            })
         }
         MapJob::Query(key) => said.extend_all(&[b" <", key.as_slice(), b">"]),
         MapJob::QueryInput => said.extend(b" keys"),
