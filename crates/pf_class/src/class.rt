@@ -116,7 +116,7 @@ impl Domains {
         self.alias_class(alloc, domain, tables)
     }
 
-    /// Whether an address is in mynetworks. Tables and list files are asked for it as it is printed, each at most once.
+    /// Whether an address is in mynetworks. Tables and list files are asked for it as it is printed, at most once an item.
     /// `LookupFailed` comes where one of these lookups failed.
     #[tactic(auto, unfolding(crate::specs::Classes::in_networks))]
     pub fn in_networks<T: Lookup>(

@@ -38,7 +38,7 @@ impl Domains {
     }
 
     /// Whether a domain is local: mydestination has it, or else it is a literal of an own interface (RFC 5321, 4.1.3). The tables
-    /// and list files of mydestination alone are asked, each at most once. `LookupFailed` comes where one of these lookups failed.
+    /// and list files of mydestination alone are asked, at most once an item. `LookupFailed` comes where one of these lookups failed.
     #[tactic(auto, unfolding(crate::specs::Local::is_local))]
     pub fn local<T: Lookup>(
         &self,
