@@ -32,7 +32,7 @@ pub enum TableFault {
     Fails,
     /// The call failed from outside, and the count of faults rose.
     Failed,
-    /// Memory was wanting.
+    /// Out of memory.
     NoMemory,
 }
 

@@ -33,7 +33,7 @@ pub enum Answer {
 pub enum AskFault {
     /// The resolver failed, and the count of faults rose.
     Failed,
-    /// Memory was wanting.
+    /// Out of memory.
     NoMemory,
 }
 

@@ -1,7 +1,7 @@
 //! What may go wrong outside, and lack of memory.
 use std::alloc::{AllocError, AllocFailed};
 
-/// Memory was wanting.
+/// Out of memory.
 #[derive(Clone, Copy, Debug, PartialEq, Eq)]
 pub struct NoMemory;
 

@@ -19,14 +19,14 @@ pub use meaning::Meaning;
 pub use outside::memory::{MemFiles, MemSink, MemSource};
 pub use outside::reading::{FILE_LIMIT, ReadFault, read_all};
 pub use outside::texts::{
-    SinkFault, Texts, blamed, status_behind, write_log, write_out, write_some, write_texts,
+    SinkFault, Texts, blamed, status_after, write_log, write_out, write_some, write_texts,
 };
 pub use outside::{Files, Sink, Source, status};
 pub use pair::Pair;
 pub use refused::{Cause, ConfFault, Refused, refuse};
 pub use table_texts::{Specs, TableId};
 pub use text::braces::closing_brace;
-pub use text::cuts::{before_byte, behind_byte, cut_at};
+pub use text::cuts::{after_byte, before_byte, cut_at};
 pub use text::keys::fold;
 pub use text::lines::{first_line, without_return};
 pub use text::logical::{Logical, TextFault, is_ignored, logical_lines, starts_with_space};

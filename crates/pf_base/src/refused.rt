@@ -59,7 +59,7 @@ pub struct Refused {
 pub enum ConfFault {
     /// It is refused.
     Refused(Refused),
-    /// Memory was wanting.
+    /// Out of memory.
     NoMemory,
 }
 

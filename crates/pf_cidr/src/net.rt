@@ -4,7 +4,7 @@ ghost use Rattle.std.specs.List.{list_any};
 ghost use Rattle.pf_cidr.specs.Nets as nets;
 
 use crate::address::Addr;
-use pf_base::{before_byte, behind_byte, decimal_within};
+use pf_base::{after_byte, before_byte, decimal_within};
 use std::marker::Model;
 
 // How many bits an IPv4 address has.
@@ -121,7 +121,7 @@ impl Net {
         ensures { result ≡ nets.prefixed text.now }
     {
         let addr = host_of(before_byte(text, b'/'))?;
-        let prefix = decimal_within(behind_byte(text, b'/'), u64::from(width(addr)))?;
+        let prefix = decimal_within(after_byte(text, b'/'), u64::from(width(addr)))?;
         Some(Net {
             addr,
             prefix: prefix as u8,

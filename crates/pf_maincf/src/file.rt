@@ -20,7 +20,7 @@ pub enum FileFault {
     Refused(Refused),
     /// A call on the files failed.
     Failed,
-    /// Memory was wanting.
+    /// Out of memory.
     NoMemory,
 }
 

@@ -6,6 +6,7 @@ use Rattle.std.specs.Option.{option_map_or}
 use Rattle.std.specs.Ordering.{nat_cmp, is_lt}
 use Rattle.std.specs.Result.{result_err, result_map_both}
 use Rattle.pf_base.specs.Meanings.{Source}
+use Rattle.pf_base.specs.Refusal.{refused}
 use Rattle.pf_base.specs.declared.meaning.Meaning.TheVariants.{Is, DomainOf}
 use Rattle.pf_base.specs.declared.refused.Cause.{Cause}
 use Rattle.pf_base.specs.declared.refused.Cause.TheVariants.{C6, C14}
@@ -23,7 +24,7 @@ use Rattle.pf_params.specs.declared.readings.Reading.{Reading}
 
 -- the refusal of a name's setting
 abbrev pub refusal_of : Conf → List ℕ → Cause → Refused
-refusal_of settled name cause = record { file = settled.file; line = line_of settled name; cause = cause; name = name }
+refusal_of settled name cause = refused settled.file (line_of settled name) cause name
 
 -- a parameter of this kind may be as it is, set or not
 abbrev pub may_stand : Kind → Bool → Bool

@@ -2,6 +2,7 @@
 use Rattle.std.specs.Prelude.{ℕ, ◌+◌, ◌++◌, Bool, true, false, List, [], Result, map}
 use Rattle.std.specs.Result.{result_map_both}
 use Rattle.pf_base.specs.Meanings.{Source}
+use Rattle.pf_base.specs.Refusal.{refused}
 use Rattle.pf_base.specs.declared.refused.Cause.{Cause}
 use Rattle.pf_base.specs.declared.refused.Cause.TheVariants.{C4, C5, C16}
 use Rattle.pf_base.specs.declared.refused.Refused.{Refused}
@@ -32,13 +33,9 @@ cause_of BadForm = C5
 cause_of TooDeep = C4
 cause_of TooLong = C16
 
--- a refusal, which has no line and names nothing
-abbrev pub refused : List ℕ → Flaw → Refused
-refused file flaw = record { file = file; line = 0; cause = cause_of flaw; name = [] }
-
--- a value, or its refusal
+-- a value, or its refusal, which has no line and names nothing
 abbrev pub or_refused : List ℕ → Answer → Result (List ℕ) Refused
-or_refused file value = result_map_both (λ bytes. bytes) (refused file) value
+or_refused file value = result_map_both (λ bytes. bytes) (λ flaw. refused file 0 (cause_of flaw) []) value
 
 -- the value of a text
 abbrev pub value_in : Conf → List ℕ → Result (List ℕ) Refused

@@ -8,9 +8,9 @@ ghost use Rattle.pf_base.specs.Clauses.Faults.{as_fault};
 ghost use Rattle.pf_maincf.specs.Settings.{is_set, last_setting, line_of};
 ghost use Rattle.pf_params.specs.Settled as spec;
 
-use crate::refusals::text_refused;
+use crate::refusals::cause_of;
 use crate::table::{set_default_values, set_names};
-use pf_base::{Bytes, ConfFault, List, Meaning, NoMemory};
+use pf_base::{Bytes, ConfFault, List, Meaning, NoMemory, refuse};
 use pf_expand::{Flaw, Names, Values};
 use pf_maincf::{MainCf, Setting};
 use std::alloc::Global;
@@ -113,10 +113,9 @@ impl Known {
     pub fn expand(&self, alloc: Global, text: &[u8]) -> Result<Bytes, ConfFault>
         ensures { Unless result ConfFault.NoMemory (λ r. r ≡ as_fault (spec.value_in self.now text.now)) }
     {
-        match self.text_value(alloc, text) {
-            Err(NoMemory) => Err(ConfFault::NoMemory),
-            Ok(Ok(bytes)) => Ok(bytes),
-            Ok(Err(flaw)) => Err(text_refused(alloc, self.file(), flaw)),
+        match self.text_value(alloc, text)? {
+            Ok(bytes) => Ok(bytes),
+            Err(flaw) => Err(refuse(alloc, self.file().as_slice(), 0, cause_of(flaw), &[])),
         }
     }
 

@@ -1,10 +1,10 @@
 //! Refusals of settings.
-ghost use Rattle.std.specs.Prelude.{◌≡◌, ◌≢◌, Some, IfOk};
+ghost use Rattle.std.specs.Prelude.{◌≡◌, Some, IfOk};
 ghost use Rattle.pf_params.specs.Parameters as spec;
 ghost use Rattle.pf_params.specs.Settled as settled;
 
 use crate::known::Known;
-use pf_base::{Bytes, Cause, ConfFault, NoMemory, Refused};
+use pf_base::{Bytes, Cause, NoMemory, Refused};
 use pf_catalogue::Kind;
 use pf_expand::Flaw;
 use std::alloc::Global;
@@ -28,21 +28,6 @@ pub(crate) fn bad_value(kind: Kind) -> Cause
         Kind::FixedYes => Cause::C14,
         Kind::Unset => Cause::C14,
         _ => Cause::C6,
-    }
-}
-
-/// A text's refusal, which has no line and names nothing.
-pub(crate) fn text_refused(alloc: Global, file: &Bytes, flaw: Flaw) -> ConfFault
-    ensures { result ≢ ConfFault.NoMemory → result ≡ ConfFault.Refused (settled.refused file.now flaw) }
-{
-    match file.copy(alloc) {
-        Ok(file) => ConfFault::Refused(Refused {
-            file,
-            line: 0,
-            cause: cause_of(flaw),
-            name: Bytes::new(alloc),
-        }),
-        Err(NoMemory) => ConfFault::NoMemory,
     }
 }
 

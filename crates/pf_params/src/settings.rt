@@ -91,10 +91,9 @@ impl Settings {
     pub fn new(alloc: Global, main: &MainCf, over: &List<Setting>) -> Result<Settings, ConfFault>
         ensures { Unless result ConfFault.NoMemory (λ r. r ≡ as_fault (spec.accepted main.now over.now)) }
     {
-        match read(alloc, main, over) {
-            Err(NoMemory) => Err(ConfFault::NoMemory),
-            Ok(Err(refusal)) => Err(ConfFault::Refused(refusal)),
-            Ok(Ok(settings)) => Ok(settings),
+        match read(alloc, main, over)? {
+            Err(refusal) => Err(ConfFault::Refused(refusal)),
+            Ok(settings) => Ok(settings),
         }
     }
 

@@ -4,7 +4,7 @@ ghost use Rattle.std.specs.List.{list_all};
 ghost use Rattle.std.specs.Option.{option_copied};
 ghost use Rattle.pf_smtp.specs.Path as path;
 
-use pf_base::{Bytes, NoMemory, before_byte, behind_byte, is_host_name};
+use pf_base::{Bytes, NoMemory, after_byte, before_byte, is_host_name};
 use std::alloc::Global;
 use std::marker::Model;
 
@@ -95,7 +95,7 @@ fn address_of(text: &[u8]) -> Option<AddressRef<'_>>
     ensures { result ≡ path.address_of text.now }
 {
     let local = before_byte(text, b'@');
-    let domain = behind_byte(text, b'@');
+    let domain = after_byte(text, b'@');
     if is_local_part(local) && is_host_name(domain) {
         Some(AddressRef { local, domain })
     } else {

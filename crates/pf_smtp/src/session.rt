@@ -50,9 +50,7 @@ impl Progress {
         ensures mail { M.known mail.new ≡ M.known mail.old }
     {
         clear(texts);
-        let Ok(()) = self.take_piece(alloc, piece, texts) else {
-            return Err(SinkFault::NoMemory);
-        };
+        self.take_piece(alloc, piece, texts)?;
         write_texts(texts, out, mail, log)
     }
 
@@ -61,9 +59,7 @@ impl Progress {
             (out_text (greeting_of self.now.setup.banner)) result }
     {
         let mut text = Bytes::new(alloc);
-        let Ok(()) = print_greeting(self.setup.banner.as_slice(), &mut text) else {
-            return Err(SinkFault::NoMemory);
-        };
+        print_greeting(self.setup.banner.as_slice(), &mut text)?;
         write_out(out, text.as_slice())
     }
 }

@@ -26,7 +26,7 @@ pub enum ReadFault {
     /// The file has more than [`FILE_LIMIT`] bytes.
     #[error("the file is too large")]
     TooLarge,
-    /// Memory was wanting.
+    /// Out of memory.
     #[error("no memory")]
     NoMemory,
 }

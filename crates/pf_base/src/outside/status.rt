@@ -27,7 +27,7 @@ pub const LOG_FAILED: u8 = 7;
 /// A call on the files failed.
 pub const FILES_FAILED: u8 = 8;
 
-/// Memory was wanting.
+/// Out of memory.
 pub const NO_MEMORY: u8 = 9;
 
 /// As many bytes of input were taken as the budget lets.

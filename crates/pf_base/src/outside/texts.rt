@@ -5,7 +5,7 @@ ghost use Rattle.pf_base.specs.Outside.Objects.{Says, log_text, out_text, sink_s
 ghost use Rattle.pf_base.specs.Outside.Known.{Output, Writes};
 
 use crate::bytes::Bytes;
-use crate::fault::OuterFault;
+use crate::fault::{NoMemory, OuterFault};
 use crate::outside::Sink;
 use crate::outside::status::{LOG_FAILED, MAIL_FAILED, NO_MEMORY, OUT_FAILED};
 use std::alloc::Global;
@@ -40,8 +40,19 @@ pub enum SinkFault {
     Mail,
     /// A write to the log failed.
     Log,
-    /// Memory was wanting.
+    /// Out of memory.
     NoMemory,
+}
+
+impl From<NoMemory> for SinkFault {
+    ghost use Rattle.std.specs.Prelude.{◌≡◌};
+    ghost use Rattle.pf_base.specs.declared.outside.texts.SinkFault.TheVariants.{NoMemory};
+
+    ghost from_gives = { λ _ fault. fault ≡ NoMemory };
+
+    fn from(_: NoMemory) -> SinkFault {
+        SinkFault::NoMemory
+    }
 }
 
 impl SinkFault {
@@ -59,7 +70,7 @@ impl SinkFault {
 }
 
 /// The exit status of a run that has written its last texts: this one, unless a fault broke that off.
-pub fn status_behind(status: u8, said: Result<(), SinkFault>) -> u8
+pub fn status_after(status: u8, said: Result<(), SinkFault>) -> u8
     ensures { result ≡ status_of status said }
 {
     match said {

@@ -23,7 +23,7 @@ pub fn before_byte(text: &[u8], byte: u8) -> &[u8]
 }
 
 /// What is after the first such byte; nothing where there is none.
-pub fn behind_byte(text: &[u8], byte: u8) -> &[u8]
+pub fn after_byte(text: &[u8], byte: u8) -> &[u8]
     ensures { result.now ≡ after_first (λ b. b == byte) text.now }
 {
     match &text[place_of(text, byte)..] {

@@ -28,7 +28,7 @@ pub enum TextFault {
     /// The first line that is not ignored starts with space; `line` is its number, from 1.
     #[error("line {line}: continuation of nothing")]
     Continuation { line: u64 },
-    /// Memory was wanting.
+    /// Out of memory.
     #[error("no memory")]
     NoMemory,
 }

@@ -18,7 +18,7 @@ pub enum WordsFault {
     /// A brace has no partner; `at` is the place, from 0, of the first such brace.
     #[error("byte {at}: a brace without its partner")]
     Unbalanced { at: u64 },
-    /// Memory was wanting.
+    /// Out of memory.
     #[error("no memory")]
     NoMemory,
 }
