@@ -23,11 +23,10 @@ use Rattle.pf_table.specs.Inline as inline
 use Rattle.pf_table.specs.Inline.{inline_of, item_pairs}
 use Rattle.pf_table.specs.Pairs.{counted, counting, pairs_of, with_pair}
 use Rattle.pf_table.specs.Tables.{Keyed, found_as, found_in}
-use Rattle.pf_table.specs.Text.{Counts, entries_in, lines_in, lines_read, table_with, text_read, with_entry}
+use Rattle.pf_table.specs.Text.{Counts, Entry, entries_in, lines_in, lines_read, table_with, text_read, with_entry}
 use Rattle.pf_table.specs.declared.pairs.Repeats.{Repeats}
 use Rattle.pf_table.specs.declared.pairs.Repeats.TheVariants.{First, Last}
 use Rattle.pf_table.specs.declared.text.Entries.{Entries}
-use Rattle.pf_table.specs.declared.text.Entry.{Entry}
 use Rattle.pf_table.specs.declared.text.TextRead.{TextRead}
 
 same : (a b : List ℕ) → bytes_eq a b ≡ true → a ≡ b

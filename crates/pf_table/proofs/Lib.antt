@@ -1,8 +1,11 @@
 pub mod CountLaws
 pub mod FirstLaws
+pub mod IndexLaws
+pub mod KeptLaws
+pub mod LineLemmas
 pub mod MemoryLemmas
-pub mod PairLemmas
 pub mod PlaceLemmas
+pub mod ReadingLemmas
 pub mod ResultLaws
 pub mod Rows
 pub mod TextLemmas

@@ -8,7 +8,7 @@ use Rattle.pf_base.specs.Clauses.Unless.{Unless}
 use Rattle.pf_base.specs.declared.pair.Pair.{Pair}
 use Rattle.pf_base.specs.declared.table_texts.TableId.{TableId}
 use Rattle.pf_asks.specs.Clauses.Held.{Answered}
-use Rattle.pf_asks.specs.Looking.{CanFind, HasAll, Listing, Looked, Meaning, Values, answer_of, listed, listing_failed, look_failed, looked_up, results_of, value_of}
+use Rattle.pf_asks.specs.Looking.{CanFind, HasAll, Listing, Looked, Values, answer_of, listed, listing_failed, look_failed, looked_up, results_of, value_of}
 use Rattle.pf_asks.specs.declared.lookup.Found.{Found}
 use Rattle.pf_asks.specs.declared.lookup.Results.{Results}
 use Rattle.pf_asks.specs.declared.lookup.TableFault.{TableFault}

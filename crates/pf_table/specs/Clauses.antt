@@ -1,4 +1,4 @@
 -- Words of contracts, between the code and the definitions.
 pub mod Keeping
 pub mod Memory
-pub mod Noting
+pub mod Reading

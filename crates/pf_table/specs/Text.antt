@@ -14,9 +14,13 @@ use Rattle.pf_table.specs.Tables.{found_in}
 use Rattle.pf_table.specs.declared.line.Reason.{Reason}
 use Rattle.pf_table.specs.declared.pairs.Repeats.{Repeats}
 use Rattle.pf_table.specs.declared.text.Entries.{Entries}
-use Rattle.pf_table.specs.declared.text.Entry.{Entry}
 use Rattle.pf_table.specs.declared.text.Repeated.{Repeated}
 use Rattle.pf_table.specs.declared.text.TextRead.{TextRead}
+
+-- a line with its pair
+pub record Entry : Type 0 where
+  pub line : ℕ
+  pub pair : Pair
 
 -- a line is repeated whose key is there
 abbrev pub repeated_in : List Pair → Entry → List Repeated

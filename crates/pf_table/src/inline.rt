@@ -99,11 +99,13 @@ fn item_pair(alloc: Global, folds: bool, item: &[u8]) -> Result<Option<Pair>, No
 fn pairs_in(alloc: Global, folds: bool, items: &[Bytes]) -> Result<Option<Pairs>, NoMemory>
     ensures { IfOk result (λ pairs. pairs ≡ spec.pairs_in folds items.now) }
 {
-    let mut pairs = Pairs::new(alloc);
+    let mut pairs = Pairs::new(alloc, items.len(), 0)?;
     for item in items {
         match item_pair(alloc, folds, item.as_slice())? {
             None => return Ok(None),
-            Some(pair) => pairs.add(Repeats::First, pair)?,
+            Some(Pair { key, value }) => {
+                pairs.add(Repeats::First, key.as_slice(), value.as_slice())?;
+            }
         }
     }
     Ok(Some(pairs))

@@ -1,14 +1,15 @@
 //! A line of a text table: its key and its value (DATABASE_README, texthash; the quotes are postgate's own).
-ghost use Rattle.std.specs.Prelude.{◌≡◌, ◌==◌, ◌&&◌, ◌<◌, ◌≤◌, false, length, not, IfOk, IfSome};
+ghost use Rattle.std.specs.Prelude.{◌≡◌, ◌+◌, ◌++◌, ◌==◌, ◌&&◌, ◌<◌, ◌≤◌, Bool, false, Some, Ok, Err, drop, length, not, take, IfSome, MatchResult, OnOk};
 ghost use Rattle.std.specs.List.{position_or_len};
 ghost use Rattle.std.specs.Option.{option_copied};
 ghost use Rattle.pf_base.specs.Text.Ascii as ascii;
 ghost use Rattle.pf_base.specs.Text.Space as space;
+ghost use Rattle.pf_base.specs.Text.Names.{folded};
+ghost use Rattle.pf_table.specs.Clauses.Reading.{pair_with};
 ghost use Rattle.pf_table.specs.Line as spec;
+ghost use Rattle.pf_table.specs.Tables.{kept_key};
 
-use crate::pairs::kept_key;
-use pf_base::{Bytes, NoMemory, Pair, is_space, trimmed};
-use std::alloc::Global;
+use pf_base::{NoMemory, is_space, trimmed};
 
 /// Why a line has no pair.
 #[derive(Clone, Copy, Debug, PartialEq, Eq)]
@@ -58,19 +59,18 @@ fn closing_quote(text: &[u8]) -> Option<usize>
     None
 }
 
-// What is between quotes, without its backslashes.
-fn unquoted(alloc: Global, content: &[u8]) -> Result<Bytes, NoMemory>
-    ensures { IfOk result (λ bytes. bytes ≡ spec.unquoted false content.now) }
+// Adds what is between quotes, without its backslashes.
+fn add_unquoted(key: &mut Vec<u8>, content: &[u8]) -> Result<(), NoMemory>
+    ensures { OnOk result (key.new.items ≡ key.old.items ++ spec.unquoted false content.now) }
 {
-    let mut bytes = Bytes::new(alloc);
     let mut taken = false;
     for b in content {
         taken = takes_next(taken, *b);
         if !taken {
-            bytes.push(*b)?;
+            key.push(*b)?;
         }
     }
-    Ok(bytes)
+    Ok(())
 }
 
 // What is after the quote that a line begins with; None where it begins with another byte.
@@ -96,62 +96,85 @@ fn key_end(text: &[u8]) -> usize
     text.len()
 }
 
-// The pair of a line whose key begins with this, and goes on in what is left of the line.
-fn pair_behind(alloc: Global, folds: bool, prefix: &[u8], text: &[u8]) -> Result<Pair, NoMemory>
-    ensures { IfOk result (λ pair. pair ≡ spec.pair_behind folds prefix.now text.now) }
+// The parts of a line whose key begins with this, in quotes, and goes on in what is left of the line.
+fn parts_behind<'a>(
+    quoted: &'a [u8],
+    text: &'a [u8],
+) -> Result<(&'a [u8], &'a [u8], &'a [u8]), Reason>
+    ensures { (folds : Bool) → MatchResult result
+        (λ parts. spec.valued (Some (spec.pair_behind folds (spec.unquoted false quoted.now) text.now)) ≡ Ok (pair_with folds parts.0.now parts.1.now parts.2.now))
+        (λ reason. spec.valued (Some (spec.pair_behind folds (spec.unquoted false quoted.now) text.now)) ≡ Err reason) }
 {
     let end = key_end(text);
-    let mut key = Bytes::from_slice(alloc, prefix)?;
-    key.extend(&text[..end])?;
-    Ok(Pair {
-        key: kept_key(alloc, folds, key.as_slice())?,
-        value: Bytes::from_slice(alloc, trimmed(&text[end..]))?,
-    })
+    let value = trimmed(&text[end..]);
+    if 0 < value.len() {
+        Ok((quoted, &text[..end], value))
+    } else {
+        Err(Reason::NoValue)
+    }
 }
 
-// The pair of a line that begins with a quote, by what is after that; None where the quote isn't closed.
-fn quoted_pair(alloc: Global, folds: bool, text: &[u8]) -> Result<Option<Pair>, NoMemory>
-    ensures { IfOk result (λ pair. pair ≡ spec.quoted_pair folds text.now) }
+// What is before a byte, and what is after it.
+fn around(text: &[u8], place: usize) -> (&[u8], &[u8])
+    requires { place < length text.now }
+    ensures before { result.0.now ≡ take place text.now }
+    ensures after { result.1.now ≡ drop (place + 1) text.now }
+{
+    (&text[..place], &text[place + 1..])
+}
+
+// The parts of a line that begins with a quote, by what is after that.
+fn quoted_parts(text: &[u8]) -> Result<(&[u8], &[u8], &[u8]), Reason>
+    ensures { (folds : Bool) → MatchResult result
+        (λ parts. spec.valued (spec.quoted_pair folds text.now) ≡ Ok (pair_with folds parts.0.now parts.1.now parts.2.now))
+        (λ reason. spec.valued (spec.quoted_pair folds text.now) ≡ Err reason) }
 {
     match closing_quote(text) {
-        None => Ok(None),
+        None => Err(Reason::QuoteNotClosed),
         Some(place) => {
-            let prefix = unquoted(alloc, &text[..place])?;
-            let pair = pair_behind(alloc, folds, prefix.as_slice(), &text[place + 1..])?;
-            Ok(Some(pair))
+            let (quoted, behind) = around(text, place);
+            parts_behind(quoted, behind)
         }
     }
 }
 
-fn split(alloc: Global, folds: bool, text: &[u8]) -> Result<Option<Pair>, NoMemory>
-    ensures { IfOk result (λ pair. pair ≡ spec.split folds text.now) }
+/// The parts of a line, or why it has no pair: what is in the quotes that it may begin with, what its key goes on with up to the
+/// first space after them, and its value, which is what is left, without space at its ends.
+pub(crate) fn parts_of(text: &[u8]) -> Result<(&[u8], &[u8], &[u8]), Reason>
+    ensures { (folds : Bool) → MatchResult result
+        (λ parts. spec.pair_of folds text.now ≡ Ok (pair_with folds parts.0.now parts.1.now parts.2.now))
+        (λ reason. spec.pair_of folds text.now ≡ Err reason) }
 {
     match behind_quote(text) {
-        Some(behind) => quoted_pair(alloc, folds, behind),
-        None => {
-            let pair = pair_behind(alloc, folds, &[], text)?;
-            Ok(Some(pair))
-        }
+        None => parts_behind(&[], text),
+        Some(behind) => quoted_parts(behind),
     }
 }
 
-/// The key and the value of a line. The key ends at the first space; in quotes, with which it may begin, space belongs to it, and
-/// a backslash takes the next byte. The value is what is left, without space at its ends.
-pub(crate) fn pair_of(
-    alloc: Global,
-    folds: bool,
-    text: &[u8],
-) -> Result<Result<Pair, Reason>, NoMemory>
-    ensures { IfOk result (λ pair. pair ≡ spec.pair_of folds text.now) }
+// Makes the letters A to Z of a text small.
+fn make_small(text: &mut [u8])
+    ensures { text.new ≡ folded text.old }
 {
-    match split(alloc, folds, text)? {
-        None => Ok(Err(Reason::QuoteNotClosed)),
-        Some(pair) => {
-            if 0 < pair.value.len() {
-                Ok(Ok(pair))
-            } else {
-                Ok(Err(Reason::NoValue))
-            }
-        }
+    for i in 0..text.len() {
+        text[i] = text[i].to_ascii_lowercase();
     }
+}
+
+/// Writes the key of a line, as a table keeps it, over what is in `key`: what is in quotes, without the backslashes that take a byte,
+/// and what it goes on with.
+pub(crate) fn write_key(
+    key: &mut Vec<u8>,
+    folds: bool,
+    quoted: &[u8],
+    plain: &[u8],
+) -> Result<(), NoMemory>
+    ensures { OnOk result (key.new.items ≡ kept_key folds (spec.unquoted false quoted.now ++ plain.now)) }
+{
+    key.clear();
+    add_unquoted(key, quoted)?;
+    key.extend_from_slice(plain)?;
+    if folds {
+        make_small(key.as_mut_slice());
+    }
+    Ok(())
 }

@@ -1,5 +1,5 @@
 use Rattle.std.proofs.Common.{◌≡◌, map, take}
 use Rattle.pf_table.proofs.pairs.Pairs.values.Given as goal
 
-abbrev pub invariant-loop-place : goal.invariant-loop-place
-invariant-loop-place l = l.values ≡ take l.place (map (λ pair. pair.value) l.self)
+abbrev pub invariant-loop-i : goal.invariant-loop-i
+invariant-loop-i l = l.values ≡ take l.i (map (λ pair. pair.value) l.self)
