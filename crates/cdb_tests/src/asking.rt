@@ -1,7 +1,7 @@
 //! What the program answers: the bytes that it prints.
 ghost use Rattle.pf_cdb.specs.Sound.{IsSound};
 
-use pf_base::{Bytes, NoMemory, before_byte, behind_byte, decimal};
+use pf_base::{Bytes, List, NoMemory, Pair, after_byte, before_byte, decimal};
 use pf_cdb::{Damage, WriteFault, Writer, check, elements, find};
 use std::alloc::Global;
 
@@ -10,7 +10,7 @@ fn with_lines(alloc: Global, text: &[u8]) -> Result<Writer, WriteFault> {
     let mut writer = Writer::new(alloc)?;
     for line in text.split(|byte| *byte == b'\n') {
         if line.len() > 0 {
-            writer = writer.add(before_byte(line, b' '), behind_byte(line, b' '))?;
+            writer = writer.add(before_byte(line, b' '), after_byte(line, b' '))?;
         }
     }
     Ok(writer)
@@ -29,9 +29,14 @@ pub fn build(alloc: Global, text: &[u8]) -> Result<Bytes, NoMemory> {
     }
 }
 
-fn add_number(alloc: Global, text: &mut Bytes, number: u32) -> Result<(), NoMemory> {
+/// Adds a number in digits.
+pub fn add_number(alloc: Global, text: &mut Bytes, number: u64) -> Result<(), NoMemory> {
+    text.extend(decimal(alloc, number)?.as_bytes())
+}
+
+fn add_place(alloc: Global, text: &mut Bytes, number: u32) -> Result<(), NoMemory> {
     text.push(b' ')?;
-    text.extend(decimal(alloc, u64::from(number))?.as_bytes())
+    add_number(alloc, text, u64::from(number))
 }
 
 fn kind(damage: Damage) -> &'static str {
@@ -54,26 +59,37 @@ fn place(damage: Damage) -> (u32, u32) {
     }
 }
 
-/// What is wrong with a file: nothing, or its kind and where it is in a line.
+/// Adds a damage as a line: its kind and where it is.
+pub fn add_damage(alloc: Global, line: &mut Bytes, damage: Damage) -> Result<(), NoMemory> {
+    let (place, slot) = place(damage);
+    line.extend(kind(damage).as_bytes())?;
+    add_place(alloc, line, place)?;
+    add_place(alloc, line, slot)?;
+    line.push(b'\n')
+}
+
+/// What is wrong with a file: nothing, or its damage in a line.
 pub fn damage_line(alloc: Global, file: &[u8]) -> Result<Bytes, NoMemory> {
     let mut line = Bytes::new(alloc);
     if let Err(damage) = check(file) {
-        let (place, slot) = place(damage);
-        line.extend(kind(damage).as_bytes())?;
-        add_number(alloc, &mut line, place)?;
-        add_number(alloc, &mut line, slot)?;
-        line.push(b'\n')?;
+        add_damage(alloc, &mut line, damage)?;
     }
     Ok(line)
+}
+
+/// Adds pairs, each in a line.
+pub fn add_pairs(text: &mut Bytes, pairs: &List<Pair>) -> Result<(), NoMemory> {
+    for pair in pairs.as_slice() {
+        text.extend_all(&[pair.key.as_slice(), b" ", pair.value.as_slice(), b"\n"])?;
+    }
+    Ok(())
 }
 
 /// The pairs of a file, each in a line; no line where it is damaged.
 pub fn list(alloc: Global, file: &[u8]) -> Result<Bytes, NoMemory> {
     let mut text = Bytes::new(alloc);
     if let Ok(()) = check(file) {
-        for pair in elements(alloc, file)?.as_slice() {
-            text.extend_all(&[pair.key.as_slice(), b" ", pair.value.as_slice(), b"\n"])?;
-        }
+        add_pairs(&mut text, &elements(alloc, file)?)?;
     }
     Ok(text)
 }

@@ -11,7 +11,6 @@ use Rattle.pf_cdb.proofs.RecordLaws.{RecordsStand, pairs_read}
 use Rattle.pf_cdb.proofs.SizeLaws.{entry_size, length_placed, size_of_tables, size_written, sixteen, too_large_at}
 use Rattle.pf_cdb.specs.Clauses.Adding.{IsPrefix, prefix_of, pairs_at}
 use Rattle.pf_cdb.specs.Hash.{hash_of}
-use Rattle.pf_cdb.specs.Layout.{pair_at}
 use Rattle.pf_cdb.specs.Written.{by_table, filled, header_bytes, placed, record_bytes, record_size, records_end, table_bytes, tables_of, tables_size, written}
 use Rattle.pf_cdb.specs.declared.layout.Slot.{Slot}
 

@@ -1,13 +1,14 @@
 -- A file of which nothing is said is sound, and of a sound file nothing is said.
 use Rattle.std.proofs.Common.{◌≡◌, ◌≢◌, ◌+◌, ◌*◌, ◌%◌, ◌<◌, ◌≤◌, ℕ, Bool, true, false, not, List, None, length, refl, ap, arith, ⊎_elim}
-use Rattle.std.specs.Prelude.{◌&&◌, nat_lt}
+use Rattle.std.specs.Prelude.{◌&&◌, ◌||◌, nat_lt}
 use Rattle.std.proofs.lemmas.Bool.{and_cases, and_from, and_left, and_parts, and_right, cases_eq, cases_lt, eq-eqb, eqb-true, le-ltb, ltb-false, not-false, not_from_true, or_from, or_parts, false≢true}
 use Rattle.pf_cdb.proofs.FirstLemmas.{none_below, none_from}
 use Rattle.pf_cdb.proofs.SearchLaws.{used_is}
+use Rattle.pf_cdb.specs.Clauses.Readable.{HasTables, IsTableWhole, is_damaged}
 use Rattle.pf_cdb.specs.Damaged.{damage_if, first_damage, first_in_slots, first_in_tables, is_hash_wrong, is_record_out, is_short, is_slot_out, is_table_out, slot_damage, table_damage}
 use Rattle.pf_cdb.specs.Hash.{hash_of}
 use Rattle.pf_cdb.specs.Held.{is_used}
-use Rattle.pf_cdb.specs.Layout.{key_at, slot_of, slots_in, table_at}
+use Rattle.pf_cdb.specs.Layout.{key_at, key_length, slot_of, slots_in, table_at, value_length}
 use Rattle.pf_cdb.specs.Sound.{HashesMatch, IsSound, RecordsLie, SlotsLie, TablesLie}
 use Rattle.pf_cdb.specs.declared.damage.Damage.{Damage}
 use Rattle.pf_cdb.specs.declared.damage.Damage.TheVariants.{Header, TableRange, SlotRange, RecordRange, WrongHash}
@@ -41,37 +42,71 @@ none_in_table : (kind : Kind) (file : List ℕ) → first_in_slots kind file ≡
 unfolding first_in_slots
 none_in_table kind file none table i low within = none_below (slots_in file table) (slot_damage kind file table) (none_below 256 _ none table low) i within
 
-pub slots_lie : (file : List ℕ) → first_in_slots Slots file ≡ None → SlotsLie file
-unfolding slot_damage is_slot_out
-slots_lie file none table i low within used =
-    let slot = slot_of file table i in
-    let out = no_damage (is_slot_out file slot) (SlotRange table i) (none_in_table Slots file none table i low within) in
+-- a slot that is used, without one kind of damage
+pub slot_lies : (file : List ℕ) (slot : Slot) → is_slot_out file slot ≡ false → slot.at ≢ 0 → (2048 ≤ slot.at) × (slot.at + 8 ≤ length file)
+unfolding is_slot_out
+slot_lies file slot out used =
     let (header, end) = or_parts _ _ (second (is_used slot) _ (used_is slot used) out) in
     (ltb-false slot.at 2048 header, ltb-false (length file) (slot.at + 8) end)
 
-pub records_lie : (file : List ℕ) → first_in_slots Records file ≡ None → RecordsLie file
-unfolding slot_damage is_record_out
-records_lie file none table i low within used =
-    let slot = slot_of file table i in
-    let out = no_damage (is_record_out file slot) (RecordRange slot.at) (none_in_table Records file none table i low within) in
-    ltb-false (length file) _ (second (is_used slot) _ (used_is slot used) out)
+pub record_lies : (file : List ℕ) (slot : Slot) → is_record_out file slot ≡ false → slot.at ≢ 0
+    → slot.at + 8 + key_length file slot.at + value_length file slot.at ≤ length file
+unfolding is_record_out
+record_lies file slot out used = ltb-false (length file) _ (second (is_used slot) _ (used_is slot used) out)
 
-pub hashes_match : (file : List ℕ) → first_in_slots Hashes file ≡ None → HashesMatch file
-unfolding slot_damage is_hash_wrong
-hashes_match file none table i low within used =
-    let slot = slot_of file table i in
-    let wrong = no_damage (is_hash_wrong file table slot) (WrongHash table i) (none_in_table Hashes file none table i low within) in
+hash_matches : (file : List ℕ) (table : ℕ) (slot : Slot) → is_hash_wrong file table slot ≡ false → slot.at ≢ 0
+    → (hash_of (key_at file slot.at) ≡ slot.hash) × (hash_of (key_at file slot.at) % 256 ≡ table)
+unfolding is_hash_wrong
+hash_matches file table slot wrong used =
     let (hash, of_table) = and_parts _ _ (not-false _ (second (is_used slot) _ (used_is slot used) wrong)) in
     (eqb-true (hash_of (key_at file slot.at)) slot.hash hash, eqb-true (hash_of (key_at file slot.at) % 256) table of_table)
 
-pub is_sound : (file : List ℕ) → 2048 ≤ length file → first_in_tables file ≡ None → first_in_slots Slots file ≡ None → first_in_slots Records file ≡ None
+pub slots_lie : (file : List ℕ) → first_in_slots Slots file ≡ None → SlotsLie file
+unfolding slot_damage
+slots_lie file none table i low within used =
+    let slot = slot_of file table i in
+    slot_lies file slot (no_damage (is_slot_out file slot) (SlotRange table i) (none_in_table Slots file none table i low within)) used
+
+pub records_lie : (file : List ℕ) → first_in_slots Records file ≡ None → RecordsLie file
+unfolding slot_damage
+records_lie file none table i low within used =
+    let slot = slot_of file table i in
+    record_lies file slot (no_damage (is_record_out file slot) (RecordRange slot.at) (none_in_table Records file none table i low within)) used
+
+hashes_match : (file : List ℕ) → first_in_slots Hashes file ≡ None → HashesMatch file
+unfolding slot_damage
+hashes_match file none table i low within used =
+    let slot = slot_of file table i in
+    hash_matches file table slot (no_damage (is_hash_wrong file table slot) (WrongHash table i) (none_in_table Hashes file none table i low within)) used
+
+pub is_sound : (file : List ℕ) → HasTables file → first_in_slots Slots file ≡ None → first_in_slots Records file ≡ None
     → first_in_slots Hashes file ≡ None → IsSound file
-is_sound file header tables slots records hashes = record {
-  header = header;
-  tables = tables_lie file tables;
+is_sound file has slots records hashes = record {
+  header = has.header;
+  tables = has.tables;
   slots = slots_lie file slots;
   records = records_lie file records;
   hashes = hashes_match file hashes;
+}
+
+-- the same, where each slot was looked at once
+none_of_three : (file : List ℕ) (table : ℕ) (slot : Slot) → is_damaged file table slot ≡ false
+    → (is_slot_out file slot ≡ false) × ((is_record_out file slot ≡ false) × (is_hash_wrong file table slot ≡ false))
+unfolding is_damaged
+none_of_three file table slot none =
+    let (out, rest) = or_parts (is_slot_out file slot) (is_record_out file slot || is_hash_wrong file table slot) none in
+    (out, or_parts (is_record_out file slot) (is_hash_wrong file table slot) rest)
+
+pub is_whole : (file : List ℕ) → HasTables file → ((table : ℕ) → table < 256 → IsTableWhole file table) → IsSound file
+is_whole file has whole = record {
+  header = has.header;
+  tables = has.tables;
+  slots = λ table i low within used.
+      slot_lies file (slot_of file table i) (none_of_three file table (slot_of file table i) (whole table low i within)).0 used;
+  records = λ table i low within used.
+      record_lies file (slot_of file table i) (none_of_three file table (slot_of file table i) (whole table low i within)).1.0 used;
+  hashes = λ table i low within used.
+      hash_matches file table (slot_of file table i) (none_of_three file table (slot_of file table i) (whole table low i within)).1.1 used;
 }
 
 -- the other way

@@ -1,11 +1,11 @@
 -- The parts of a file that is written: their sizes, and one more of each.
-use Rattle.std.proofs.Common.{◌≡◌, ◌+◌, ◌*◌, ℕ, List, [], ◌∷◌, ◌++◌, length, refl, ap, ◌∙◌, arith}
+use Rattle.std.proofs.Common.{◌≡◌, ◌+◌, ◌*◌, ℕ, List, [], ◌∷◌, ◌++◌, length, refl, arith}
 use Rattle.std.specs.List.{flat_map, sum_by}
-use Rattle.std.proofs.lemmas.List.{append_assoc, length-append}
+use Rattle.std.proofs.lemmas.List.{length-append}
 use Rattle.std.proofs.lemmas.List.Sums.{sum_by-cons}
 use Rattle.pf_base.specs.declared.pair.Pair.{Pair}
 use Rattle.pf_cdb.proofs.BucketLaws.{length_by_table}
-use Rattle.pf_cdb.specs.Written.{by_table, bytes_of, filled, header_bytes, placed, record_bytes, record_size, records_end, slot_bytes, table_bytes, tables_of, tables_size, written}
+use Rattle.pf_cdb.specs.Written.{by_table, filled, header_bytes, placed, record_bytes, record_size, records_end, slot_bytes, table_bytes, tables_of, tables_size, written}
 use Rattle.pf_cdb.specs.declared.layout.Slot.{Slot}
 use Rattle.std.proofs.lemmas.List.{length-map}
 

@@ -4,6 +4,7 @@ pub mod DamageLaws
 pub mod ElementLaws
 pub mod FileLaws
 pub mod FirstLemmas
+pub mod HeaderLaws
 pub mod HeldLaws
 pub mod ListLaws
 pub mod OutcomeLaws

@@ -110,13 +110,20 @@ unfolding filled
 length_filled slots = length_puts (replicate (2 * length slots) empty) slots ∙ length-replicate (2 * length slots) empty
 
 -- the same of slots that a loop went over, read at any default
-pub put_here : (slots now : List Slot) (slot : Slot) (step : ℕ) (d : Slot) → slots ≡ now → step < length now
+put_at : (slots now : List Slot) (slot : Slot) (step : ℕ) (d : Slot) → slots ≡ now → step < length now
     → ((k : ℕ) → k < step → is_used (step_slot now slot.hash k) ≡ true)
     → (get_or slots ((slot.hash / 256 + step) % length slots) d).at ≡ 0
     → set slots ((slot.hash / 256 + step) % length slots) slot ≡ put now slot
-put_here slots now slot step d same low used free =
+put_at slots now slot step d same low used free =
     let inside : (slot.hash / 256 + step) % length now < length now = mod_below _ (length now) (omega arith) in
     let read : (get_or now ((slot.hash / 256 + step) % length now) d).at ≡ 0 = subst (λ l. (get_or l ((slot.hash / 256 + step) % length l) d).at ≡ 0) same free in
     let place : (step_slot now slot.hash step).at ≡ 0 = ap (λ s. s.at) (get_or_default now ((slot.hash / 256 + step) % length now) empty d inside) ∙ read in
     ap (λ l. set l ((slot.hash / 256 + step) % length l) slot) same
     ∙ put_is now slot step low used (ap not (eq-eqb (step_slot now slot.hash step).at 0 place))
+
+-- and at a place that was found to be the one of the step
+pub put_here : (slots now : List Slot) (slot : Slot) (step i : ℕ) (d : Slot) → slots ≡ now → step < length now
+    → ((k : ℕ) → k < step → is_used (step_slot now slot.hash k) ≡ true) → i ≡ (slot.hash / 256 + step) % length slots
+    → (get_or slots i d).at ≡ 0 → set slots i slot ≡ put now slot
+put_here slots now slot step i d same low used at free =
+    ap (λ n. set slots n slot) at ∙ put_at slots now slot step d same low used (ap (λ n. (get_or slots n d).at) (sym at) ∙ free)

@@ -1,17 +1,20 @@
 -- A search step by step: what is held for a key is what the slots from the next step on give.
-use Rattle.std.proofs.Common.{◌≡◌, ◌≢◌, ◌+◌, ◌/◌, ◌%◌, ◌<◌, ◌≤◌, ℕ, Bool, true, false, cond, List, [], ◌∷◌, Option, Some, None, length, drop, get_or, refl, ap, ◌∙◌, sym, arith}
+use Rattle.std.proofs.Common.{◌≡◌, ◌≢◌, ◌+◌, ◌/◌, ◌%◌, ◌<◌, ◌≤◌, ℕ, Bool, true, false, cond, List, [], ◌∷◌, Option, Some, None, length, drop, get_or, refl, ap, ◌∙◌, sym, arith, ⊎_elim}
 use Rattle.std.specs.List.{find}
 use Rattle.std.specs.Prelude.{take_while}
 use Rattle.std.specs.Option.{option_map}
-use Rattle.std.proofs.lemmas.Bool.{ne_eqb}
+use Rattle.std.proofs.lemmas.Bool.{cases_eq, eq-eqb, ne_eqb}
 use Rattle.std.proofs.lemmas.List.{drop_all, drop_more}
 use Rattle.std.proofs.lemmas.List.FromFn.{get_or-map-range_with_len, length-map-range_with_len}
 use Rattle.std.proofs.lemmas.List.Sums.{take_while-cons}
 use Rattle.std.proofs.lemmas.Nat.{mod_below}
+use Rattle.pf_cdb.specs.Clauses.Searching.{look_at}
 use Rattle.pf_cdb.specs.Hash.{hash_of}
 use Rattle.pf_cdb.specs.Held.{empty, has_key, held, is_used, tried}
 use Rattle.pf_cdb.specs.Layout.{slot_of, slots_in, table_of}
 use Rattle.pf_cdb.specs.declared.layout.Slot.{Slot}
+use Rattle.pf_cdb.specs.declared.search.Look.{Look}
+use Rattle.pf_cdb.specs.declared.search.Look.TheVariants.{Empty, Found, Other}
 
 -- the place of the first slot that has the key, up to an empty one
 unfoldable pub sought : List ℕ → List ℕ → List Slot → Option ℕ
@@ -103,27 +106,48 @@ left_done file key hash step h =
     omega (arith, length_tried (table_of file (hash % 256)) hash, length_table file (hash % 256)) in
     ap (sought file key) (drop_all step (tried (table_of file (hash % 256)) hash) len) ∙ sought_none file key
 
--- the same of a slot that was read, where the number of slots was
-slot_read : (file : List ℕ) (hash step slots : ℕ) (slot : Slot) → slots ≡ slots_in file (hash % 256)
-    → slot ≡ slot_of file (hash % 256) ((hash / 256 + step) % slots) → slot ≡ slot_tried file hash step
-slot_read file hash step slots slot count read = read ∙ ap (λ n. slot_of file (hash % 256) ((hash / 256 + step) % n)) count
+-- what a search gives, after what it came to at a slot, where the later slots give a rest
+abbrev pub after : Look → ℕ → Option ℕ → Option ℕ
+after Empty at rest = None
+after Found at rest = Some at
+after Other at rest = rest
 
-pub turn_empty : (file key : List ℕ) (hash step slots : ℕ) (slot : Slot) → slots ≡ slots_in file (hash % 256)
-    → slot ≡ slot_of file (hash % 256) ((hash / 256 + step) % slots) → step < slots → slot.at ≡ 0 → left file key hash step ≡ None
-turn_empty file key hash step slots slot count read within e =
-    let is = slot_read file hash step slots slot count read in
-    left_empty file key hash step (omega arith) (ap (λ s. s.at) (sym is) ∙ e)
+choose : (b : Bool) (at : ℕ) (rest : Option ℕ) → cond b (Some at) rest ≡ after (cond b Found Other) at rest
+choose true at rest = refl
+choose false at rest = refl
 
-pub turn_used : (file key : List ℕ) (hash step slots : ℕ) (slot : Slot) → slots ≡ slots_in file (hash % 256)
-    → slot ≡ slot_of file (hash % 256) ((hash / 256 + step) % slots) → step < slots → slot.at ≢ 0
-    → left file key hash step ≡ cond (has_key file key slot) (Some slot.at) (left file key hash (step + 1))
-turn_used file key hash step slots slot count read within used =
-    let is = slot_read file hash step slots slot count read in
-    left_used file key hash step (omega arith) (λ e. used (ap (λ s. s.at) is ∙ e))
-    ∙ ap (λ s. cond (has_key file key s) (Some s.at) (left file key hash (step + 1))) (sym is)
+not_used : (slot : Slot) → slot.at ≡ 0 → is_used slot ≡ false
+not_used slot e = rw (eq-eqb slot.at 0 e) refl
 
-pub found_here : (b : Bool) (r : Bool) (x : ℕ) (o : Option ℕ) → r ≡ b → r ≡ true → cond b (Some x) o ≡ Some x
-found_here b r x o e t = rw (sym e ∙ t) refl
+left_after : (file key : List ℕ) (hash step : ℕ) → step < slots_in file (hash % 256)
+    → left file key hash step
+    ≡ after (look_at file key (slot_tried file hash step)) (slot_tried file hash step).at (left file key hash (step + 1))
+unfolding look_at
+left_after file key hash step within =
+    let slot = slot_tried file hash step in
+    let rest = left file key hash (step + 1) in
+    ⊎_elim {A = slot.at ≡ 0} {B = slot.at ≢ 0}
+    (λ e. left_empty file key hash step within e
+    ∙ ap (λ b. after (cond b (cond (has_key file key slot) Found Other) Empty) slot.at rest) (sym (not_used slot e)))
+    (λ used. left_used file key hash step within used
+    ∙ choose (has_key file key slot) slot.at rest
+    ∙ ap (λ b. after (cond b (cond (has_key file key slot) Found Other) Empty) slot.at rest) (sym (used_is slot used)))
+    (cases_eq slot.at 0)
 
-pub not_here : (b : Bool) (r : Bool) (x : ℕ) (o : Option ℕ) → r ≡ b → r ≡ false → cond b (Some x) o ≡ o
-not_here b r x o e f = rw (sym e ∙ f) refl
+-- the same of a slot that was read, where its table, their number and its place were
+slot_read : (file : List ℕ) (hash table i step slots : ℕ) (slot : Slot) → table ≡ hash % 256 → slots ≡ slots_in file table
+    → i ≡ (hash / 256 + step) % slots → slot ≡ slot_of file table i → slot ≡ slot_tried file hash step
+slot_read file hash table i step slots slot of_hash count place read =
+    read
+    ∙ ap (slot_of file table) (place ∙ ap (λ n. (hash / 256 + step) % n) count)
+    ∙ ap (λ t. slot_of file t ((hash / 256 + step) % slots_in file t)) of_hash
+
+pub turn : (file key : List ℕ) (hash table i step slots : ℕ) (slot : Slot) (look : Look) → table ≡ hash % 256 → slots ≡ slots_in file table
+    → i ≡ (hash / 256 + step) % slots → slot ≡ slot_of file table i → step < slots → look ≡ look_at file key slot
+    → left file key hash step ≡ after look slot.at (left file key hash (step + 1))
+turn file key hash table i step slots slot look of_hash count place read within seen =
+    let is = slot_read file hash table i step slots slot of_hash count place read in
+    let low : step < slots_in file (hash % 256) = omega (arith, within, count, ap (slots_in file) of_hash) in
+    left_after file key hash step low
+    ∙ ap (λ s. after (look_at file key s) s.at (left file key hash (step + 1))) (sym is)
+    ∙ ap (λ l. after l slot.at (left file key hash (step + 1))) (sym seen)

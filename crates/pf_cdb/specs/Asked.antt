@@ -1,5 +1,5 @@
 -- What the pairs of a cdb file answer: keys and values may have been stored with a null byte after them (postmap(1), -N and -n).
--- That both keys are asked for, the one without the null byte first, follows Postfix's own reader of cdb files.
+-- That both keys are asked for follows Postfix's own reader of cdb files. That the one without the null byte comes first is postgate's own.
 use Rattle.std.specs.Prelude.{ℕ, ◌-◌, ◌==◌, ◌&&◌, Bool, nat_lt, List, [], ◌∷◌, ◌++◌, length, take, Option, slice_index, bytes_eq, find, if◌then◌else◌}
 use Rattle.std.specs.Option.{option_map, option_or}
 use Rattle.pf_base.specs.declared.pair.Pair.{Pair}

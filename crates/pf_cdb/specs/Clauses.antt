@@ -3,3 +3,4 @@ pub mod Adding
 pub mod Gathered
 pub mod Listed
 pub mod Readable
+pub mod Searching

@@ -55,7 +55,10 @@ first_in_tables file = first_below 256 (table_damage file)
 unfoldable pub first_in_slots : Kind → List ℕ → Option Damage
 first_in_slots kind file = first_below 256 (λ table. first_below (slots_in file table) (slot_damage kind file table))
 
--- what is wrong with a file: each kind of damage is looked for in the whole file before the next
+-- what is wrong with the slots: each kind of damage is looked for in the whole file before the next
+abbrev pub first_of_slots : List ℕ → Option Damage
+first_of_slots file = option_or (first_in_slots Slots file) (option_or (first_in_slots Records file) (first_in_slots Hashes file))
+
+-- what is wrong with a file
 abbrev pub first_damage : List ℕ → Option Damage
-first_damage file = option_or (damage_if (is_short file) Header) (option_or (first_in_tables file)
-    (option_or (first_in_slots Slots file) (option_or (first_in_slots Records file) (first_in_slots Hashes file))))
+first_damage file = option_or (damage_if (is_short file) Header) (option_or (first_in_tables file) (first_of_slots file))

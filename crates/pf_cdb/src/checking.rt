@@ -1,9 +1,10 @@
 //! Whether a file is damaged.
-ghost use Rattle.std.specs.Prelude.{◌≡◌, ◌+◌, ◌*◌, ◌<◌, ◌≤◌, ◌≢◌, length, OnOk, None};
+ghost use Rattle.std.specs.Prelude.{◌≡◌, ◌+◌, ◌*◌, ◌<◌, ◌≤◌, ◌≢◌, true, length, OnOk, None};
 ghost use Rattle.std.specs.Result.{result_err};
 ghost use Rattle.pf_cdb.specs.Damaged as spec;
 ghost use Rattle.pf_cdb.specs.Layout.{key_length, slot_of, slots_in, table_at, value_length};
-ghost use Rattle.pf_cdb.specs.Clauses.Readable.{HasTables, IsReadable};
+ghost use Rattle.pf_cdb.specs.Clauses.Readable.{HasTables, IsReadable, IsTableWhole};
+ghost use Rattle.pf_cdb.specs.Clauses.Readable as readable;
 ghost use Rattle.pf_cdb.specs.Sound.{IsSound};
 
 use crate::damage::{Damage, Kind};
@@ -137,20 +138,50 @@ fn first_in_slots(kind: Kind, file: &[u8]) -> Option<Damage>
     None
 }
 
-/// Whether a file is a whole cdb file: each place in it but that of an empty table lies within
-/// it, and each slot that is used holds the hash of its key (cdb(5)).
-/// The five kinds of damage are looked for in their order, each in the whole file, in the tables and their slots in turn,
-/// and the first is answered. It takes no memory.
-pub fn check(file: &[u8]) -> Result<(), Damage>
-    ensures damage { result_err result ≡ spec.first_damage file.now }
+// Whether a slot is damaged, in whatever kind.
+#[tactic(auto, unfolding(crate::specs::Clauses::Readable::is_damaged))]
+fn is_damaged(file: &[u8], table: u32, slot: Slot) -> bool
+    ensures { result ≡ readable.is_damaged file.now table slot }
+{
+    if is_slot_out(file, slot) {
+        return true;
+    }
+    is_record_out(file, slot) || is_hash_wrong(file, table, slot)
+}
+
+// Whether no slot of a table is damaged.
+fn is_table_whole(file: &[u8], table: u32) -> bool
+    requires tables { HasTables file.now }
+    requires table { table < 256 }
+    ensures { result ≡ true → IsTableWhole file.now table }
+{
+    for i in 0..slots_in(file, table) {
+        if is_damaged(file, table, slot_at(file, table, i)) {
+            return false;
+        }
+    }
+    true
+}
+
+// Whether no slot of any table is damaged.
+fn are_tables_whole(file: &[u8]) -> bool
+    requires { HasTables file.now }
+    ensures { result ≡ true → IsSound file.now }
+{
+    for table in 0..TABLES {
+        if !is_table_whole(file, table) {
+            return false;
+        }
+    }
+    true
+}
+
+// The first damage of the slots.
+fn first_of_slots(file: &[u8]) -> Result<(), Damage>
+    requires { HasTables file.now }
+    ensures damage { result_err result ≡ spec.first_of_slots file.now }
     ensures sound { OnOk result (IsSound file.now) }
 {
-    if file.len() < HEADER_SIZE {
-        return Err(Damage::Header);
-    }
-    if let Some(damage) = first_in_tables(file) {
-        return Err(damage);
-    }
     if let Some(damage) = first_in_slots(Kind::Slots, file) {
         return Err(damage);
     }
@@ -161,4 +192,24 @@ pub fn check(file: &[u8]) -> Result<(), Damage>
         return Err(damage);
     }
     Ok(())
+}
+
+/// Whether a file is a whole cdb file: each place in it but that of an empty table lies within
+/// it, and each slot that is used holds the hash of its key (cdb(5)).
+/// The five kinds of damage are looked for in their order, each in the whole file, in the tables and their slots in turn,
+/// and the first is answered. A file without damage is gone through once. It takes no memory.
+pub fn check(file: &[u8]) -> Result<(), Damage>
+    ensures damage { result_err result ≡ spec.first_damage file.now }
+    ensures sound { OnOk result (IsSound file.now) }
+{
+    if file.len() < HEADER_SIZE {
+        return Err(Damage::Header);
+    }
+    if let Some(damage) = first_in_tables(file) {
+        return Err(damage);
+    }
+    if are_tables_whole(file) {
+        return Ok(());
+    }
+    first_of_slots(file)
 }

@@ -6,7 +6,7 @@ use pf_base::NoMemory;
 pub enum WriteFault {
     /// The file would have more than `FILE_LIMIT` bytes.
     TooLarge,
-    /// Memory was wanting.
+    /// Out of memory.
     NoMemory,
 }
 

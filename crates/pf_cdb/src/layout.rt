@@ -1,5 +1,5 @@
 //! Where the parts of a file are.
-ghost use Rattle.std.specs.Prelude.{◌≡◌, ◌+◌, ◌*◌, ◌<◌, ◌≤◌, length};
+ghost use Rattle.std.specs.Prelude.{◌≡◌, ◌+◌, ◌*◌, ◌/◌, ◌%◌, ◌<◌, ◌≤◌, length};
 ghost use Rattle.pf_cdb.specs.Held as held;
 ghost use Rattle.pf_cdb.specs.Layout as spec;
 
@@ -22,6 +22,32 @@ pub(crate) const SLOT_SIZE: usize = 8;
 pub(crate) struct Slot {
     pub hash: u32,
     pub at: u32,
+}
+
+/// The table that the slots of a hash are in.
+pub(crate) fn table_of(hash: u32) -> u32
+    ensures table { result ≡ hash % 256 }
+    ensures within { result < 256 }
+{
+    hash % TABLES
+}
+
+/// The slot, of so many, that a hash tries at a step, both counted from 0.
+pub(crate) fn tried_slot(hash: u32, step: usize, slots: usize) -> usize
+    requires step { step < 9223372036854775808 }
+    requires some { 0 < slots }
+    ensures slot { result ≡ (hash / 256 + step) % slots }
+    ensures within { result < slots }
+{
+    ((hash / TABLES) as usize + step) % slots
+}
+
+/// How many slots a table is given for so many records.
+pub(crate) fn slots_for(records: usize) -> usize
+    requires { 2 * records < 18446744073709551616 }
+    ensures { result ≡ 2 * records }
+{
+    2 * records
 }
 
 /// The number in four bytes, the least byte first.

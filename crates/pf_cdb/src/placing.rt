@@ -3,7 +3,7 @@ ghost use Rattle.std.specs.Prelude.{◌≡◌, ◌<◌, length, count_by, IfOk};
 ghost use Rattle.pf_cdb.specs.Held.{is_used};
 ghost use Rattle.pf_cdb.specs.Written.{filled, put};
 
-use crate::layout::{Slot, TABLES};
+use crate::layout::{Slot, slots_for, tried_slot};
 use pf_base::NoMemory;
 use std::alloc::Global;
 
@@ -16,7 +16,7 @@ fn place(slots: &mut [Slot], slot: Slot)
     ensures { slots.new ≡ put slots.old slot }
 {
     for step in 0..slots.len() {
-        let i = (slot.hash as usize / TABLES as usize + step) % slots.len();
+        let i = tried_slot(slot.hash, step, slots.len());
         if slots[i].at == 0 {
             slots[i] = slot;
             return;
@@ -29,7 +29,7 @@ fn place(slots: &mut [Slot], slot: Slot)
 pub(crate) fn fill(alloc: Global, placed: &[Slot]) -> Result<Vec<Slot>, NoMemory>
     ensures { IfOk result (λ table. table.items ≡ filled placed.now) }
 {
-    let mut slots = vec![in alloc; EMPTY; 2 * placed.len()]?;
+    let mut slots = vec![in alloc; EMPTY; slots_for(placed.len())]?;
     for slot in placed {
         place(slots.as_mut_slice(), *slot);
     }

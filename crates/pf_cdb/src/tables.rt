@@ -3,7 +3,7 @@ ghost use Rattle.std.specs.Prelude.{◌≡◌, ◌+◌, ◌*◌, ◌≤◌, ◌+
 ghost use Rattle.pf_cdb.specs.Clauses.Gathered.{slot_lists, with_slot};
 ghost use Rattle.pf_cdb.specs.Written as spec;
 
-use crate::layout::{SLOT_SIZE, Slot, TABLES};
+use crate::layout::{SLOT_SIZE, Slot, TABLES, slots_for, table_of};
 use crate::placing::fill;
 use pf_base::{Bytes, NoMemory};
 use std::alloc::Global;
@@ -24,7 +24,7 @@ fn add_slot(buckets: &mut Vec<Vec<Slot>>, slot: Slot) -> Result<(), NoMemory>
     requires { length buckets.old.items ≡ 256 }
     ensures { OnOk result (slot_lists buckets.new.items ≡ with_slot (slot_lists buckets.old.items) slot) }
 {
-    buckets[(slot.hash % TABLES) as usize].push(slot)?;
+    buckets[table_of(slot.hash) as usize].push(slot)?;
     Ok(())
 }
 
@@ -40,23 +40,11 @@ fn sort_slots(alloc: Global, slots: &[Slot]) -> Result<Vec<Vec<Slot>>, NoMemory>
     Ok(buckets)
 }
 
-// The tables for the slots.
-fn fill_tables(alloc: Global, buckets: Vec<Vec<Slot>>) -> Result<Vec<Vec<Slot>>, NoMemory>
-    ensures { IfOk result (λ tables. slot_lists tables.items ≡ map spec.filled (slot_lists buckets.items)) }
+/// The slots of records, those of each table together. The vector that they were in is let go.
+pub(crate) fn buckets_of(alloc: Global, slots: Vec<Slot>) -> Result<Vec<Vec<Slot>>, NoMemory>
+    ensures { IfOk result (λ buckets. slot_lists buckets.items ≡ spec.by_table slots.items) }
 {
-    let mut tables = Vec::new(alloc);
-    for bucket in buckets.as_slice() {
-        tables.push(fill(alloc, bucket.as_slice())?)?;
-    }
-    Ok(tables)
-}
-
-/// The tables for the slots of records.
-pub(crate) fn tables_of(alloc: Global, slots: &[Slot]) -> Result<Vec<Vec<Slot>>, NoMemory>
-    ensures { IfOk result (λ tables. slot_lists tables.items ≡ map spec.filled (spec.by_table slots.now)) }
-{
-    let buckets = sort_slots(alloc, slots)?;
-    fill_tables(alloc, buckets)
+    sort_slots(alloc, slots.as_slice())
 }
 
 /// Adds a number in four bytes.
@@ -74,16 +62,29 @@ fn table_end(at: u64, slots: usize) -> u64
     at + SLOT_SIZE as u64 * slots as u64
 }
 
-/// Adds the header for tables of which the first is at `start`.
-pub(crate) fn add_header(file: &mut Bytes, tables: &[Vec<Slot>], start: u64) -> Result<(), NoMemory>
-    requires { start + spec.tables_size (slot_lists tables.now) ≤ 67108864 }
-    ensures { OnOk result (file.new ≡ file.old ++ spec.header_bytes start (slot_lists tables.now)) }
+// Adds the place of a table and the number of its slots. The place of an empty one is where it would be.
+fn add_place(file: &mut Bytes, at: u64, slots: usize) -> Result<(), NoMemory>
+    requires { at + 8 * slots ≤ 67108864 }
+    ensures { OnOk result (file.new ≡ file.old ++ (spec.bytes_of at ++ spec.bytes_of slots)) }
+{
+    add_word(file, at as u32)?;
+    add_word(file, slots as u32)
+}
+
+/// Adds the header for the tables of some slots, of which the first is at `start`.
+pub(crate) fn add_header(
+    file: &mut Bytes,
+    buckets: &[Vec<Slot>],
+    start: u64,
+) -> Result<(), NoMemory>
+    requires { start + spec.tables_size (map spec.filled (slot_lists buckets.now)) ≤ 67108864 }
+    ensures { OnOk result (file.new ≡ file.old ++ spec.header_bytes start (map spec.filled (slot_lists buckets.now))) }
 {
     let mut at = start;
-    for table in tables {
-        let end = table_end(at, table.len());
-        add_word(file, at as u32)?;
-        add_word(file, table.len() as u32)?;
+    for bucket in buckets {
+        let slots = slots_for(bucket.len());
+        let end = table_end(at, slots);
+        add_place(file, at, slots)?;
         at = end;
     }
     Ok(())
@@ -100,11 +101,16 @@ fn add_table(file: &mut Bytes, slots: &[Slot]) -> Result<(), NoMemory>
     Ok(())
 }
 
-/// Adds the tables.
-pub(crate) fn add_tables(file: &mut Bytes, tables: &[Vec<Slot>]) -> Result<(), NoMemory>
-    ensures { OnOk result (file.new ≡ file.old ++ flat_map spec.table_bytes (slot_lists tables.now)) }
+/// Adds the tables for some slots. One of them at a time is in memory.
+pub(crate) fn add_tables(
+    alloc: Global,
+    file: &mut Bytes,
+    buckets: &[Vec<Slot>],
+) -> Result<(), NoMemory>
+    ensures { OnOk result (file.new ≡ file.old ++ flat_map spec.table_bytes (map spec.filled (slot_lists buckets.now))) }
 {
-    for table in tables {
+    for bucket in buckets {
+        let table = fill(alloc, bucket.as_slice())?;
         add_table(file, table.as_slice())?;
     }
     Ok(())

@@ -9,7 +9,7 @@ ghost use Rattle.pf_cdb.specs.Written as spec;
 use crate::fault::WriteFault;
 use crate::hashing::hash;
 use crate::layout::{HEADER_SIZE, LENGTHS_SIZE, SLOT_SIZE, Slot};
-use crate::tables::{add_header, add_tables, add_word, tables_of};
+use crate::tables::{add_header, add_tables, add_word, buckets_of};
 use pf_base::{Bytes, FILE_LIMIT, NoMemory};
 use std::alloc::Global;
 use std::marker::Model;
@@ -80,16 +80,16 @@ fn push_slot(slots: &mut Vec<Slot>, slot: Slot) -> Result<(), NoMemory>
 }
 
 // Puts the header and the tables to the records.
-fn finished(alloc: Global, file: Bytes, slots: &[Slot]) -> Result<Bytes, NoMemory>
-    requires { IsPrefix file slots.now }
-    ensures { IfOk result (λ whole. whole ≡ spec.written (pairs_at file slots.now)) }
+fn finished(alloc: Global, file: Bytes, slots: Vec<Slot>) -> Result<Bytes, NoMemory>
+    requires { IsPrefix file slots.items }
+    ensures { IfOk result (λ whole. whole ≡ spec.written (pairs_at file slots.items)) }
 {
-    let tables = tables_of(alloc, slots)?;
+    let buckets = buckets_of(alloc, slots)?;
     let mut header = Bytes::new(alloc);
-    add_header(&mut header, tables.as_slice(), file.len())?;
+    add_header(&mut header, buckets.as_slice(), file.len())?;
     let mut file = file;
     file.put_prefix(header.as_slice());
-    add_tables(&mut file, tables.as_slice())?;
+    add_tables(alloc, &mut file, buckets.as_slice())?;
     Ok(file)
 }
 
@@ -105,7 +105,8 @@ impl Writer {
         })
     }
 
-    /// Adds a pair. `TooLarge` comes exactly where the file would have more than `FILE_LIMIT` bytes with it.
+    /// Adds a pair. `TooLarge` comes exactly where the file would have more than `FILE_LIMIT` bytes with it. After a fault the
+    /// writer is let go, with what was added.
     pub fn add(self, key: &[u8], value: &[u8]) -> Result<Writer, WriteFault>
         ensures added { IfOk result (λ more. more ≡ self ++ record { key = key.now; value = value.now } ∷ []) }
         ensures large { 67108864 < length (spec.written (self ++ record { key = key.now; value = value.now } ∷ [])) → result ≡ Err WriteFault.TooLarge }
@@ -141,6 +142,6 @@ impl Writer {
             find (λ pair. bytes_eq pair.key key) (elements_of file) ≡ find (λ pair. bytes_eq pair.key key) self) }
     {
         let Writer { file, slots } = self;
-        finished(alloc, file, slots.as_slice())
+        finished(alloc, file, slots)
     }
 }

@@ -6,7 +6,6 @@ use Rattle.pf_cdb.proofs.AddingLaws.{if_finished, size_prefix}
 use Rattle.pf_cdb.proofs.DamageLaws.{none_from_sound}
 use Rattle.pf_cdb.proofs.ElementLaws.{elements_written, firsts_all}
 use Rattle.pf_cdb.proofs.WrittenSoundLaws.{found_written, sound_written}
-use Rattle.pf_cdb.specs.Clauses.Adding.{pairs_at}
 use Rattle.pf_cdb.specs.Damaged.{first_damage}
 use Rattle.pf_cdb.specs.Held.{elements_of}
 use Rattle.pf_cdb.specs.Sound.{IsSound}
@@ -17,9 +16,7 @@ pub returns : goal.returns
 returns c =
     let pairs = c.args.self in
     let r = c.finished.result in
-    let all : pairs_at c.self.inside.file c.as_slice.result.now ≡ pairs =
-    ap (pairs_at c.self.inside.file) c.as_slice.ensures.value ∙ c.self.view_is in
-    let is : IfOk r (λ file. file ≡ written pairs) = subst (λ p. IfOk r (λ file. file ≡ written p)) all c.finished.ensures in
+    let is : IfOk r (λ file. file ≡ written pairs) = subst (λ p. IfOk r (λ file. file ≡ written p)) c.self.view_is c.finished.ensures in
     let fits : length (written pairs) ≤ 67108864 =
     omega (arith, size_prefix c.self.inside.file c.self.inside.slots.items c.self.invariant, ap (λ p. length (written p)) c.self.view_is, c.self.invariant.fits) in
     let sound = sound_written pairs fits in
