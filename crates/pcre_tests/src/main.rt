@@ -8,53 +8,21 @@
 //! line a text before, on the third one that is as often as that, and on the fourth one after, which together are a
 //! table, and the answer as of the kind `table`; of the kind `deep` how deep the groups of a pattern are nested, and the answer
 //! as of the kind `table`; of the kind `keys` how often all keys are asked, on the next line the keys parted by `~`, and from
-//! the third line on the text of a table, and the values of the keys parted by `~`, of which `nothing` is none. Rows that begin
-//! with `# ` are comments.
+//! the third line on the text of a table, and the values of the keys parted by `~`, of which `nothing` is none; of the kind
+//! `plain` the same text, and the answer `alike` where the keys have the values that the rules have one by one, each alone in a
+//! table of its own (`plain.rt`), else the first key with another one. In the keys of `plain` the sign `↵` is a line feed and `¿` a byte that begins
+//! no character. Rows that begin with `# ` are comments.
 #![tactic(auto)]
 
-use pf_asks::{Found, Results};
-use pf_base::{Bytes, ConfFault, List, NoMemory, cut_at};
-use pf_pcre::{Patterns, PcreTable};
+mod compare;
+mod plain;
+mod tables;
+
+use compare::compared;
+use pf_base::{Bytes, NoMemory};
 use std::alloc::Global;
 use std::io;
-
-// The name of each table's file.
-const FILE: &[u8] = b"t";
-
-// The refusal of a file without its line feed.
-fn refusal(alloc: Global, fault: &ConfFault) -> Result<Bytes, NoMemory> {
-    match fault {
-        ConfFault::NoMemory => Err(NoMemory),
-        ConfFault::Refused(refusal) => {
-            let line = refusal.line(alloc)?;
-            match cut_at(line.as_slice(), b'\n') {
-                Some((line, _)) => Bytes::from_slice(alloc, line),
-                None => Bytes::from_slice(alloc, b"no line feed"),
-            }
-        }
-    }
-}
-
-// Whether a text is a table.
-fn judged(alloc: Global, text: &[u8]) -> Result<Bytes, NoMemory> {
-    let mut patterns = Patterns::new();
-    match PcreTable::read(alloc, FILE, text, &mut patterns) {
-        Ok(_) => Bytes::from_slice(alloc, b"table"),
-        Err(fault) => refusal(alloc, &fault),
-    }
-}
-
-// The value of a key.
-fn found(alloc: Global, key: &[u8], text: &[u8]) -> Result<Bytes, NoMemory> {
-    let mut patterns = Patterns::new();
-    match PcreTable::read(alloc, FILE, text, &mut patterns) {
-        Ok(mut table) => match table.find(alloc, key)? {
-            Found::Value(value) => Ok(value),
-            Found::Absent => Bytes::from_slice(alloc, b"nothing"),
-        },
-        Err(fault) => refusal(alloc, &fault),
-    }
-}
+use tables::{asked, found, judged, number, parted, results};
 
 // The bytes that numbers parted by blanks name.
 fn octets(alloc: Global, text: &[u8]) -> Result<Bytes, NoMemory> {
@@ -67,74 +35,6 @@ fn octets(alloc: Global, text: &[u8]) -> Result<Bytes, NoMemory> {
         }
     }
     Ok(bytes)
-}
-
-// Values parted by commas.
-fn joined(alloc: Global, values: &List<Bytes>) -> Result<Bytes, NoMemory> {
-    let mut text = Bytes::new(alloc);
-    for (i, value) in values.as_slice().iter().enumerate() {
-        if i > 0 {
-            text.push(b',')?;
-        }
-        text.extend(value.as_slice())?;
-    }
-    Ok(text)
-}
-
-fn results(alloc: Global, text: &[u8]) -> Result<Bytes, NoMemory> {
-    let mut patterns = Patterns::new();
-    match PcreTable::read(alloc, FILE, text, &mut patterns) {
-        Ok(table) => match table.results(alloc)? {
-            Results::Anything => Bytes::from_slice(alloc, b"anything"),
-            Results::Listed(values) => joined(alloc, &values),
-        },
-        Err(fault) => refusal(alloc, &fault),
-    }
-}
-
-// The values of keys parted by tildes.
-fn values(alloc: Global, table: &mut PcreTable, keys: &[u8]) -> Result<Bytes, NoMemory> {
-    let mut values = Bytes::new(alloc);
-    for (i, key) in keys.split(|b| *b == b'~').enumerate() {
-        if i > 0 {
-            values.push(b'~')?;
-        }
-        match table.find(alloc, key)? {
-            Found::Value(value) => values.extend(value.as_slice())?,
-            Found::Absent => values.extend(b"nothing")?,
-        }
-    }
-    Ok(values)
-}
-
-// What a table says of keys that are asked so often.
-fn asked(alloc: Global, text: &[u8]) -> Result<Bytes, NoMemory> {
-    let (times, rest) = parted(text);
-    let (keys, text) = parted(rest);
-    let mut patterns = Patterns::new();
-    match PcreTable::read(alloc, FILE, text, &mut patterns) {
-        Ok(mut table) => {
-            let mut said = Bytes::new(alloc);
-            for _ in 0..number(times) {
-                said = values(alloc, &mut table, keys)?;
-            }
-            Ok(said)
-        }
-        Err(fault) => refusal(alloc, &fault),
-    }
-}
-
-// The number that a text writes, or 0.
-fn number(text: &[u8]) -> u32 {
-    match str::from_utf8(text) {
-        Ok(text) => text.parse::<u32>().unwrap_or(0),
-        Err(_) => 0,
-    }
-}
-
-// The first line of a text, and the others.
-fn parted(text: &[u8]) -> (&[u8], &[u8]) {
-    cut_at(text, b'\n').unwrap_or((text, b""))
 }
 
 // A text in which one part is so often.
@@ -166,7 +66,8 @@ fn nested(alloc: Global, text: &[u8]) -> Result<Bytes, NoMemory> {
 }
 
 // What is said of a text.
-fn said(alloc: Global, kind: &str, text: &[u8]) -> Result<Bytes, NoMemory> {
+fn said(alloc: Global, kind: &str, row: &str) -> Result<Bytes, NoMemory> {
+    let text = row.as_bytes();
     match kind {
         "table" => judged(alloc, text),
         "find" => {
@@ -179,6 +80,7 @@ fn said(alloc: Global, kind: &str, text: &[u8]) -> Result<Bytes, NoMemory> {
             found(alloc, key.as_slice(), table)
         }
         "keys" => asked(alloc, text),
+        "plain" => compared(alloc, row),
         "results" => results(alloc, text),
         "repeat" => {
             let text = repeated(alloc, text)?;
@@ -202,7 +104,7 @@ fn look_at(rt: &HostRuntime, alloc: Global, row: &str) -> io::Result<()> {
     };
     let text = text.replace(alloc, '␤', "\n")?;
     let answer = answer.replace(alloc, '␤', "\n")?;
-    match said(alloc, kind, text.as_bytes()) {
+    match said(alloc, kind, text.as_str()) {
         Ok(bytes) => {
             if bytes.as_slice() != answer.as_bytes() {
                 println!(rt; "not so: {row}")?;

@@ -1,5 +1,5 @@
 -- What is said of a file whose lines were read.
-use Rattle.std.proofs.Common.{◌≡◌, ℕ, ◌+◌, ◌<◌, ◌≤◌, Bool, false, List, [], ◌∷◌, length, get_or, Some, None, Result, Ok, Err, refl, sym, ap, subst, ◌∙◌, arith}
+use Rattle.std.proofs.Common.{◌≡◌, ℕ, ◌+◌, ◌<◌, ◌≤◌, inl, inr, ⊎_elim, Bool, true, false, List, [], ◌∷◌, length, get_or, Some, None, Result, Ok, Err, refl, sym, ap, subst, ◌∙◌, arith}
 use Rattle.pf_base.specs.Clauses.Unless.{Unless}
 use Rattle.pf_base.specs.Text.Logical.{logical_lines_of}
 use Rattle.pf_base.specs.declared.text.logical.Logical.{Logical}
@@ -8,7 +8,7 @@ use Rattle.pf_base.specs.declared.refused.Cause.TheVariants.{C1, C11}
 use Rattle.pf_base.specs.declared.refused.ConfFault.{ConfFault}
 use Rattle.pf_base.specs.declared.refused.ConfFault.TheVariants as conf_fault
 use Rattle.pf_asks.specs.Clauses.Causes.{counted_if}
-use Rattle.pf_pcre.specs.Clauses.Reading.{IsTableOf, as_conf_fault, is_large, is_of_size, names_size}
+use Rattle.pf_pcre.specs.Clauses.Reading.{CountsOnce, IsTableOf, as_conf_fault, is_large, is_of_size, names_size}
 use Rattle.pf_pcre.specs.Clauses.Taking.{Leaves, finished, takes}
 use Rattle.pf_pcre.specs.Tables.{or_refused, reason_text, refused, table_of, table_with}
 use Rattle.pf_pcre.specs.declared.entry.Entry.{Entry}
@@ -61,6 +61,22 @@ later b old before now counted same = omega (arith, counted, same)
 pub none_counted : (now before : ℕ) → now ≡ counted_if false before → now ≡ before
 none_counted now before is = omega (arith, is)
 
+-- the count of patterns after lines, whatever became of their refusal
+abbrev pub Once : List ℕ → List Logical → ℕ → ℕ → Type 0
+Once file lines old new = CountsOnce (λ large. or_refused file (table_with large lines)) old new
+
+pub refused_once : (file : List ℕ) (lines : List Logical) (r : Reading) (i : ℕ) (logical : Logical) (why : Reason) (old before now : ℕ)
+    → i < length lines → logical ≡ get_or lines i logical → Led lines i r → takes (is_of_size why) r logical.line logical.text ≡ Err why
+    → now ≡ counted_if (is_of_size why) before → before ≡ old → Once file lines old now
+refused_once file lines r i logical why old before now within at led is counted same =
+    either_way (is_of_size why)
+    (λ large. inr (
+      i + 0,
+      ap (λ t. names_size (as_conf_fault (or_refused file t))) (too_large_at lines r i logical why within at led (rw large at is)) ∙ named_by_size why ∙ large,
+      counted ∙ ap (λ b. counted_if b before) large ∙ ap (counted_if true) same,
+    ))
+    (λ small. inl (none_counted now before (counted ∙ ap (λ b. counted_if b before) small) ∙ same))
+
 -- after the last line
 not_by_size : (file : List ℕ) (r : Reading) (pending : List ℕ) (fault : ConfFault) → Err fault ≡ as_conf_fault (or_refused file (finished r pending))
     → names_size {A = List Entry} (Err fault) ≡ false
@@ -90,3 +106,11 @@ pub continued_table : (file text : List ℕ) (line : ℕ) (fault : ConfFault) �
     → IsTableOf (λ large. table_of large file text) (Err fault)
 continued_table file text line fault named is =
     (None, ap Err named ∙ sym (ap as_conf_fault (continued None file text line is)), sym (ap (λ f. names_size {A = List Entry} (Err f)) named))
+
+-- the count after a text whose lines are these
+pub once_in_text : (file text : List ℕ) (lines : List Logical) → Ok lines ≡ logical_lines_of text → (old new : ℕ) → Once file lines old new
+    → CountsOnce (λ large. table_of large file text) old new
+once_in_text file text lines is old new once =
+    ⊎_elim inl
+    (λ more. inr (more.0, ap (λ t. names_size (as_conf_fault t)) (table_of_lines (Some more.0) file text lines is) ∙ more.1, more.2))
+    once

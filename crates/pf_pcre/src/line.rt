@@ -23,7 +23,7 @@ use std::alloc::Global;
 pub(crate) enum LineFault {
     /// It is refused.
     Refused(Reason),
-    /// Memory was wanting.
+    /// Out of memory.
     NoMemory,
 }
 

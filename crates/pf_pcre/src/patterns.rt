@@ -20,9 +20,9 @@ use std::marker::Model;
 pub enum BuildFault {
     /// The text is no pattern of the crate regex, or is nested more than 250 deep.
     Syntax,
-    /// The pattern takes too much room.
+    /// The text is a pattern, and regex or a crate that regex stands on did not build it for its size.
     TooLarge,
-    /// Memory was wanting.
+    /// Out of memory.
     NoMemory,
 }
 
@@ -41,7 +41,7 @@ impl From<Error> for BuildFault {
     }
 }
 
-/// Builds patterns, and counts those that took too much room.
+/// Builds patterns, and counts those that were not built for their size.
 #[derive(Debug, Drop)]
 pub struct Patterns {
     faults: u64,
@@ -127,7 +127,7 @@ impl Patterns {
     }
 
     /// The pattern of a text with these switches. `Syntax` comes exactly where the text is none, and `TooLarge` only of one
-    /// that is; it is counted.
+    /// that is; it is counted. Which patterns are too large no clause says.
     pub fn build(
         &mut self,
         alloc: Global,
@@ -146,7 +146,7 @@ impl Patterns {
         }
     }
 
-    // Counts a pattern that took too much room.
+    // Counts a pattern that was not built for its size.
     fn note(&mut self, fault: BuildFault)
         ensures { self.new ≡ counted_if (is_size fault) self.old }
     {

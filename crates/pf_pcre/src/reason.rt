@@ -9,7 +9,7 @@ pub(crate) enum Reason {
     Flag,
     /// There is no delimiter, or the text between the delimiters is no pattern.
     Pattern,
-    /// A pattern takes too much room.
+    /// A pattern was not built for its size, by regex or a crate that regex stands on.
     PatternSize,
     /// A result names a group that its pattern has not, or has another dollar sign.
     Group,

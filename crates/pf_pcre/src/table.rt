@@ -3,7 +3,7 @@ ghost use Rattle.std.specs.Prelude.{◌≡◌, ◌≢◌, ◌≤◌, false, IfOk
 ghost use Rattle.pf_base.specs.Clauses.Unless.{Unless};
 ghost use Rattle.pf_asks.specs.Clauses.Causes.{counted_if};
 ghost use Rattle.pf_asks.specs.Looking.{HasAll};
-ghost use Rattle.pf_pcre.specs.Clauses.Reading.{IsTableOf, as_conf_fault, is_large, names_size};
+ghost use Rattle.pf_pcre.specs.Clauses.Reading.{CountsOnce, IsTableOf, as_conf_fault, is_large, names_size};
 ghost use Rattle.pf_pcre.specs.Clauses.Taking as taking;
 ghost use Rattle.pf_pcre.specs.Tables as tables;
 ghost use Rattle.std.specs.Prelude.{Some};
@@ -180,6 +180,7 @@ fn table_of(
     ensures is { Unless result ConfFault.NoMemory (IsTableOf (λ large. tables.or_refused file.now (tables.table_with large lines.now))) }
     ensures counts { Unless result ConfFault.NoMemory (λ r. patterns.new ≡ counted_if (names_size r) patterns.old) }
     ensures later { patterns.old ≤ patterns.new }
+    ensures once { CountsOnce (λ large. tables.or_refused file.now (tables.table_with large lines.now)) patterns.old patterns.new }
 {
     let mut reading = Reading::new(alloc);
     for logical in lines {
@@ -198,8 +199,9 @@ impl PcreTable {
     /// The table of a file with this name and this text (pcre_table(5)). It is refused as C1 where its first line that is not
     /// ignored starts with space, else as C11 at its first line that has a reason, which the refusal names: `flag`, `pattern`,
     /// `pattern size`, `group`, `no value`, `too many rules` or `endif without if`, of several the first in this order. After
-    /// all these comes `if without endif`, at the first `if` that is never closed. `pattern size` comes only where the count
-    /// of the patterns rose.
+    /// all these comes `if without endif`, at the first `if` that is never closed. A line that is refused
+    /// with `pattern size` raises the count by one, but not above the greatest u64; where memory ran out the count rose at most
+    /// once, and only where a line can be refused so. Any other answer leaves it.
     pub fn read(
         alloc: Global,
         file: &[u8],
@@ -209,6 +211,7 @@ impl PcreTable {
         ensures is { Unless result ConfFault.NoMemory (IsTableOf (λ large. tables.table_of large file.now text.now)) }
         ensures counts { Unless result ConfFault.NoMemory (λ r. patterns.new ≡ counted_if (names_size r) patterns.old) }
         ensures later { patterns.old ≤ patterns.new }
+        ensures once { CountsOnce (λ large. tables.table_of large file.now text.now) patterns.old patterns.new }
     {
         match logical_lines(alloc, text) {
             Ok(lines) => table_of(alloc, file, lines.as_slice(), patterns),

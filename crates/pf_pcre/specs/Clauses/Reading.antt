@@ -1,10 +1,11 @@
 -- What is read of a line, and which refusals are those of a pattern's size. Words of contracts, by no standard.
-use Rattle.std.specs.Prelude.{◌≡◌, ℕ, Bool, true, false, List, Option, Result, Ok, Err, codes, is_some}
+use Rattle.std.specs.Prelude.{◌≡◌, ◌⊎◌, ℕ, Bool, true, false, List, Option, Some, Result, Ok, Err, codes, is_some}
 use Rattle.std.specs.Str.{bytes_eq}
 use Rattle.pf_base.specs.Clauses.Unless.{Unless}
 use Rattle.pf_base.specs.declared.refused.ConfFault.{ConfFault}
 use Rattle.pf_base.specs.declared.refused.ConfFault.TheVariants as conf_fault
 use Rattle.pf_base.specs.declared.refused.Refused.{Refused}
+use Rattle.pf_asks.specs.Clauses.Causes.{counted_if}
 use Rattle.pf_pcre.specs.declared.entry.Entry.{Entry}
 use Rattle.pf_pcre.specs.declared.line.LineFault.{LineFault}
 use Rattle.pf_pcre.specs.declared.line.LineFault.TheVariants as line
@@ -58,3 +59,8 @@ names_size (Err conf_fault.NoMemory) = false
 -- the table of a file or its refusal, where just the pattern of the line that is refused for it is too large, if there is one
 abbrev pub IsTableOf : (Option ℕ → Result (List Entry) Refused) → Result (List Entry) ConfFault → Type 0
 IsTableOf answer result = (large : Option ℕ) × (result ≡ as_conf_fault (answer large)) × (is_some large ≡ names_size result)
+
+-- a count is as it was, or one more where the file is refused for the size of the pattern at a place, whether or not there was memory
+-- for the refusal
+abbrev pub CountsOnce : (Option ℕ → Result (List Entry) Refused) → ℕ → ℕ → Type 0
+CountsOnce answer old new = (new ≡ old) ⊎ ((place : ℕ) × (names_size (as_conf_fault (answer (Some place))) ≡ true) × (new ≡ counted_if true old))

@@ -12,7 +12,7 @@ fault_of CompiledTooBig = fault.TooLarge
 fault_of Internal = fault.TooLarge
 fault_of OutOfMemory = fault.NoMemory
 
--- a pattern took too much room
+-- a pattern was not built for its size
 abbrev pub is_size : BuildFault → Bool
 is_size fault.Syntax = false
 is_size fault.TooLarge = true

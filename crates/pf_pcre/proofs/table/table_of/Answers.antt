@@ -2,7 +2,7 @@ use Rattle.std.proofs.Common.{◌≡◌, ap, ◌∙◌, arith, refl}
 use Rattle.pf_base.specs.declared.refused.Cause.TheVariants.{C11}
 use Rattle.pf_base.specs.declared.refused.ConfFault.TheVariants.{Refused}
 use Rattle.pf_pcre.specs.Tables.{reason_text, refused}
-use Rattle.pf_pcre.proofs.TableLemmas.{counts_at, later, leaves_at, none_counted, refused_counts, refused_table, finished_counts, finished_table}
+use Rattle.pf_pcre.proofs.TableLemmas.{counts_at, later, leaves_at, none_counted, refused_counts, refused_once, refused_table, finished_counts, finished_table}
 use Rattle.pf_pcre.proofs.TakingLaws.{led_first, taken_at}
 use Rattle.pf_pcre.proofs.table.table_of.Goals as goal
 
@@ -26,6 +26,14 @@ pub returns-in-Err-Refused-clause-later : goal.returns-in-Err-Refused-clause-lat
 returns-in-Err-Refused-clause-later c =
     let counted = counts_at _ _ c.in-Err-Refused.field-0 c.in-Err-Refused.reason c.in-Err-Refused.field-0-is c.in-Err-Refused.ensures.counts in
     later _ _ _ _ counted c.loop-logical.invariant.same
+
+pub returns-in-Err-Refused-clause-once : goal.returns-in-Err-Refused-clause-once
+returns-in-Err-Refused-clause-once c =
+    let leaves = leaves_at c.loop-logical.reading c.take.new.self c.logical-item.result.line c.as_slice.result.now c.in-Err-Refused.field-0 c.in-Err-Refused.reason c.in-Err-Refused.field-0-is c.in-Err-Refused.ensures.is in
+    let taken = rw c.as_slice.ensures at leaves in
+    let counted = counts_at _ _ c.in-Err-Refused.field-0 c.in-Err-Refused.reason c.in-Err-Refused.field-0-is c.in-Err-Refused.ensures.counts in
+    refused_once c.args.file.now c.args.lines.now c.loop-logical.reading c.loop-logical.logical-index c.logical-item.result c.in-Err-Refused.reason _ _ _
+    (omega arith) c.logical-item.is c.loop-logical.invariant.led taken counted c.loop-logical.invariant.same
 
 pub returns-clause-is : goal.returns-clause-is
 returns-clause-is c =

@@ -1,6 +1,6 @@
 use Rattle.std.proofs.Common.{◌≢◌, ℕ}
 use Rattle.pf_base.specs.declared.text.logical.TextFault.TheVariants.{Continuation, NoMemory}
-use Rattle.pf_pcre.proofs.TableLemmas.{continued_table, table_in_text}
+use Rattle.pf_pcre.proofs.TableLemmas.{continued_table, once_in_text, table_in_text}
 use Rattle.pf_pcre.proofs.table.PcreTable.read.Goals as goal
 
 continuation_is_not_memory : (line : ℕ) → Continuation line ≢ NoMemory
@@ -14,3 +14,6 @@ returns-in-Err-Continuation-clause-is c = λ memory.
 pub returns-in-Ok-clause-is : goal.returns-in-Ok-clause-is
 returns-in-Ok-clause-is c =
     table_in_text c.args.file.now c.args.text.now _ c.in-Ok.ensures c.table_of.result (rw c.as_slice.ensures at c.table_of.ensures.is)
+
+pub returns-in-Ok-clause-once : goal.returns-in-Ok-clause-once
+returns-in-Ok-clause-once c = once_in_text c.args.file.now c.args.text.now _ c.in-Ok.ensures _ _ (rw c.as_slice.ensures at c.table_of.ensures.once)
