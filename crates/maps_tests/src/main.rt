@@ -15,6 +15,7 @@ use pf_asks::{Found, Lookup, Results, TableFault};
 use pf_base::{Bytes, ConfFault, List, MemFiles, NoMemory, Pair, Refused, Specs, TableId, decimal};
 use pf_cdb::write;
 use pf_maps::{OpenFault, SpecNode, Tables, spec};
+use pf_pcre::Patterns;
 use std::alloc::{AllocError, Global};
 use std::io;
 
@@ -53,6 +54,7 @@ fn add_node(alloc: Global, said: &mut Bytes, node: &SpecNode) -> Result<(), NoMe
         SpecNode::Text(name) => add_field(said, &[b"texthash ", name.as_slice()]),
         SpecNode::Cdb(name) => add_field(said, &[b"cdb ", name.as_slice()]),
         SpecNode::Cidr(name) => add_field(said, &[b"cidr ", name.as_slice()]),
+        SpecNode::Pcre(name) => add_field(said, &[b"pcre ", name.as_slice()]),
         SpecNode::Inline(text) => add_field(said, &[b"inline ", text.as_slice()]),
         SpecNode::Fixed(value) => add_field(said, &[b"static ", value.as_slice()]),
         SpecNode::Fail => add_field(said, &[b"fail"]),
@@ -110,7 +112,7 @@ fn opened(
         return Err(OpenFault::NoMemory);
     };
     let mut files = MemFiles::new(alloc, files, numbers);
-    Tables::open(alloc, specs, folded, &mut files)
+    Tables::open(alloc, specs, folded, &mut files, &mut Patterns::new())
 }
 
 fn add_fault(alloc: Global, said: &mut Bytes, fault: &OpenFault) -> Result<(), NoMemory> {

@@ -1,5 +1,6 @@
 -- What tables mean, member by member.
-use Rattle.std.proofs.Common.{◌≡◌, ◌≢◌, ◌+◌, ◌-◌, ◌++◌, ◌||◌, ℕ, zero, suc, Bool, true, false, List, [], ◌∷◌, Option, None, Some, Result, Ok, refl, sym, ap, subst, ◌∙◌, codes, drop, append_assoc, arith}
+use Rattle.std.proofs.Common.{◌≡◌, ◌≢◌, ◌+◌, ◌-◌, ◌++◌, ◌||◌, ◌&&◌, ℕ, zero, suc, Bool, true, false, List, [], ◌∷◌, Option, None, Some, Result, Ok, Err, refl, sym, ap, subst, ◌∙◌, codes, drop, length, ◌≤◌, append_assoc, arith}
+use Rattle.std.proofs.lemmas.List.{length-drop}
 use Rattle.std.proofs.lemmas.Slice.Eq.{bytes_eq-Decides}
 use Rattle.std.specs.List.{list_any}
 use Rattle.std.specs.Option.{option_map}
@@ -11,15 +12,16 @@ use Rattle.pf_asks.specs.declared.lookup.Found.{Found}
 use Rattle.pf_asks.specs.declared.lookup.Found.TheVariants.{Value, Absent}
 use Rattle.pf_asks.specs.declared.lookup.Results.TheVariants.{Anything}
 use Rattle.pf_asks.specs.declared.lookup.TableFault.{TableFault}
-use Rattle.pf_asks.specs.declared.lookup.TableFault.TheVariants.{Fails}
+use Rattle.pf_asks.specs.declared.lookup.TableFault.TheVariants.{Fails, NoMemory}
 use Rattle.pf_cidr.specs.Addresses.{address_of}
 use Rattle.pf_cidr.specs.Tables.{Table, first_rule}
 use Rattle.pf_cidr.specs.declared.address.Addr.{Addr}
+use Rattle.pf_pcre.proofs.ResultLaws as pcre
 use Rattle.pf_table.proofs.ResultLaws.{fail_has_all, keyed_has_all, static_has_all}
 use Rattle.pf_maps.proofs.CdbLaws.{cdb_has_all}
 use Rattle.pf_maps.specs.Cdb.{found_as}
 use Rattle.pf_maps.specs.Clauses.Seen.{meaning_in, values_of}
-use Rattle.pf_maps.specs.Meanings.{address_found, all_partial, cidr_meaning, first_meaning, firsts, joined, meaning_of, meanings_of, onto, pipe_meaning, pipe_on, pipe_results, pipe_value, union_meaning, union_results, union_value}
+use Rattle.pf_maps.specs.Meanings.{address_found, all_partial, cidr_meaning, first_meaning, firsts, joined, meaning_of, meanings_of, pipe_meaning, pipe_on, pipe_results, pipe_value, union_meaning, union_results, union_value}
 use Rattle.pf_maps.specs.declared.node.Node.{Node}
 use Rattle.pf_maps.specs.declared.node.Node.TheVariants as node
 
@@ -116,6 +118,55 @@ pipe_step more nodes behind found value next h is answer made =
     ∙ sym (ap (λ ms. pipe_value ms value) (firsts_more more (meanings_of nodes) h)
     ∙ pipe_more (firsts (more - 1) (drop 1 (meanings_of nodes))) (meaning_of nodes) value next (there ((meaning_of nodes).value value) found answer ∙ ap Some made))
 
+-- a walk that ends where a member fails, or has nothing
+failed : (o : Option Found) (fault : TableFault) → Err fault ≡ ok_or o Fails → (o ≡ None) × (fault ≡ Fails)
+failed None fault is = let e : fault ≡ Fails = cc in (refl, e)
+failed (Some found) fault is = cc
+
+fails_so : (o : Option Found) (fault : TableFault) → o ≡ None → fault ≡ Fails → Err fault ≡ ok_or o Fails
+fails_so o fault none fails = rw (none, fails) refl
+
+pub union_stop : (more count : ℕ) (here nodes first : List Node) (found : Found) (key : List ℕ) (fault : TableFault) → more ≢ 0
+    → option_map (joined found) (union_value (firsts more (meanings_of here)) key) ≡ union_value (firsts count (meanings_of nodes)) key → nodes ≡ first
+    → (fault ≢ NoMemory → Err fault ≡ answer_of (meaning_of here) key) → fault ≢ NoMemory
+    → Err fault ≡ answer_of (union_meaning (firsts count (meanings_of first))) key
+union_stop more count here nodes first found key fault h so same answer memory =
+    let two = failed ((meaning_of here).value key) fault (answer memory) in
+    let none : union_value (firsts more (meanings_of here)) key ≡ None =
+    ap (λ ms. union_value ms key) (firsts_more more (meanings_of here) h) ∙ union_fails (firsts (more - 1) (drop 1 (meanings_of here))) (meaning_of here) key two.0 in
+    fails_so (union_value (firsts count (meanings_of first)) key) fault
+    (ap (λ ns. union_value (firsts count (meanings_of ns)) key) (sym same) ∙ sym so ∙ ap (option_map (joined found)) none) two.1
+
+pub pipe_stop : (more count : ℕ) (here nodes first : List Node) (value key : List ℕ) (fault : TableFault) → more ≢ 0
+    → pipe_value (firsts more (meanings_of here)) value ≡ pipe_value (firsts count (meanings_of nodes)) key → nodes ≡ first
+    → (fault ≢ NoMemory → Err fault ≡ answer_of (meaning_of here) value) → fault ≢ NoMemory
+    → Err fault ≡ answer_of (pipe_meaning (firsts count (meanings_of first))) key
+pipe_stop more count here nodes first value key fault h so same answer memory =
+    let two = failed ((meaning_of here).value value) fault (answer memory) in
+    let none : pipe_value (firsts more (meanings_of here)) value ≡ None =
+    ap (λ ms. pipe_value ms value) (firsts_more more (meanings_of here) h) ∙ pipe_fails (firsts (more - 1) (drop 1 (meanings_of here))) (meaning_of here) value two.0 in
+    fails_so (pipe_value (firsts count (meanings_of first)) key) fault
+    (ap (λ ns. pipe_value (firsts count (meanings_of ns)) key) (sym same) ∙ sym so ∙ none) two.1
+
+pub pipe_over : (more count : ℕ) (here nodes first : List Node) (value key : List ℕ) (found : Found) → more ≢ 0
+    → pipe_value (firsts more (meanings_of here)) value ≡ pipe_value (firsts count (meanings_of nodes)) key → nodes ≡ first
+    → Ok found ≡ answer_of (meaning_of here) value → found ≡ Absent
+    → Ok Absent ≡ answer_of (pipe_meaning (firsts count (meanings_of first))) key
+pipe_over more count here nodes first value key found h so same answer absent =
+    let ended : pipe_value (firsts more (meanings_of here)) value ≡ Some Absent =
+    ap (λ ms. pipe_value ms value) (firsts_more more (meanings_of here) h)
+    ∙ pipe_ends (firsts (more - 1) (drop 1 (meanings_of here))) (meaning_of here) value (there ((meaning_of here).value value) found answer ∙ ap Some absent) in
+    let all : pipe_value (firsts count (meanings_of first)) key ≡ Some Absent = ap (λ ns. pipe_value (firsts count (meanings_of ns)) key) (sym same) ∙ sym so ∙ ended in
+    rw all refl
+
+-- one member more of which it is known whether it has partial keys
+pub partial_step : (more : ℕ) (nodes behind : List Node) (partial : Bool) → more ≢ 0 → meanings_of behind ≡ drop 1 (meanings_of nodes)
+    → partial ≡ (meaning_of nodes).partial_keys → partial ≡ true → all_partial (firsts (more - 1) (meanings_of behind)) ≡ all_partial (firsts more (meanings_of nodes))
+partial_step more nodes behind partial h is keys so =
+    ap (λ ms. all_partial (firsts (more - 1) ms)) is
+    ∙ sym (ap all_partial (firsts_more more (meanings_of nodes) h)
+    ∙ ap (λ t. t && all_partial (firsts (more - 1) (drop 1 (meanings_of nodes)))) (sym keys ∙ so))
+
 pub same_found : (found other : Found) → ◌≡◌ {A = Result Found TableFault} (Ok found) (Ok other) → found ≡ other
 same_found found other e = cc
 
@@ -208,6 +259,7 @@ all_have [] = tt
 all_have (node.Text table ∷ nodes) = (keyed_has_all table, all_have nodes)
 all_have (node.Cdb table ∷ nodes) = (cdb_has_all table, all_have nodes)
 all_have (node.Cidr table ∷ nodes) = (nets_have_all table, all_have nodes)
+all_have (node.Pcre table ∷ nodes) = (pcre.has_all table, all_have nodes)
 all_have (node.Inline table ∷ nodes) = (keyed_has_all table, all_have nodes)
 all_have (node.Fixed value ∷ nodes) = (static_has_all value, all_have nodes)
 all_have (node.Fail ∷ nodes) = (fail_has_all, all_have nodes)
@@ -226,3 +278,33 @@ meaning_has (Some nodes) = has_all nodes
 
 pub known_all : (tables : List (List Node)) (id : ℕ) (values : Values) → Some (values_of tables) ≡ Some values → HasAll (values id)
 known_all tables id values knows = let e : values_of tables ≡ values = cc in subst (λ (vs : Values). HasAll (vs id)) e (meaning_has (slice_get tables id))
+
+-- what is left of nodes is what is after some of them
+pub left_all : (nodes : List Node) → nodes ≡ drop (length nodes - length nodes) nodes
+left_all nodes = let n : length nodes - length nodes ≡ 0 = omega arith in rw n refl
+
+pub left_one : (first : Node) (nodes : List Node) → nodes ≡ drop (length (first ∷ nodes) - length nodes) (first ∷ nodes)
+left_one first nodes = let n : suc (length nodes) - length nodes ≡ 1 = omega arith in rw n refl
+
+pub left_more : (first : Node) (nodes left : List Node) → length left ≤ length nodes → left ≡ drop (length nodes - length left) nodes
+    → left ≡ drop (length (first ∷ nodes) - length left) (first ∷ nodes)
+left_more first nodes left few is =
+    let n : suc (length nodes) - length left ≡ suc (length nodes - length left) = omega (arith, few) in
+    is ∙ sym (ap (λ m. drop m (first ∷ nodes)) n)
+
+drop_twice : {A : Type 0} (a b : ℕ) (xs : List A) → drop a (drop b xs) ≡ drop (b + a) xs
+drop_twice a zero xs = let n : a ≡ 0 + a = omega arith in ap (λ m. drop m xs) n
+drop_twice a (suc b) [] = drop_nothing a [] refl ∙ sym (drop_nothing (suc b + a) [] refl)
+drop_twice a (suc b) (x ∷ xs) = let n : suc (b + a) ≡ suc b + a = omega arith in drop_twice a b xs ∙ ap (λ m. drop m (x ∷ xs)) n
+
+pub left_next : (nodes left next : List Node) → length left ≤ length nodes → length next ≤ length left
+    → left ≡ drop (length nodes - length left) nodes → next ≡ drop (length left - length next) left → next ≡ drop (length nodes - length next) nodes
+left_next nodes left next few fewer is then =
+    let n : length nodes - length left + (length left - length next) ≡ length nodes - length next = omega (arith, few, fewer) in
+    then ∙ ap (λ xs. drop (length left - length next) xs) is ∙ drop_twice (length left - length next) (length nodes - length left) nodes ∙ ap (λ m. drop m nodes) n
+
+pub place_is : (nodes left : List Node) (place : ℕ) → place ≤ length nodes → length left ≤ length (drop place nodes)
+    → left ≡ drop (length (drop place nodes) - length left) (drop place nodes) → drop (length nodes - length left) nodes ≡ left
+place_is nodes left place within few is =
+    let n : place + (length (drop place nodes) - length left) ≡ length nodes - length left = omega (arith, within, few, length-drop place nodes) in
+    sym (is ∙ drop_twice (length (drop place nodes) - length left) place nodes ∙ ap (λ m. drop m nodes) n)

@@ -1,16 +1,22 @@
 -- Worked examples of the definitions, each by computation.
-use Rattle.std.proofs.Common.{◌≡◌, ℕ, true, false, List, [], ◌∷◌, None, Some, Ok, Err, refl, codes}
+use Rattle.std.proofs.Common.{◌≡◌, ◌++◌, ℕ, true, List, [], ◌∷◌, None, Some, Ok, Err, refl, codes}
+use Rattle.std.specs.Str.{chars, is_utf8}
+use Rattle.pf_base.specs.TableTexts.{TableTexts}
 use Rattle.pf_base.specs.Text.Words.{words_of}
 use Rattle.pf_base.specs.declared.pair.Pair.{Pair}
-use Rattle.pf_base.specs.declared.refused.Cause.TheVariants.{C9}
+use Rattle.pf_base.specs.declared.refused.Cause.TheVariants.{C9, C10, C11}
 use Rattle.pf_base.specs.declared.table_texts.TableText.{TableText}
 use Rattle.pf_asks.specs.Looking.{answer_of}
 use Rattle.pf_asks.specs.declared.lookup.Found.TheVariants.{Value, Absent}
 use Rattle.pf_asks.specs.declared.lookup.Results.TheVariants.{Listed, Anything}
 use Rattle.pf_asks.specs.declared.lookup.TableFault.TheVariants.{Fails}
 use Rattle.pf_base.specs.Refusal.{refused}
+use Rattle.pf_cdb.specs.Asked.{ends_in_null, without_null}
+use Rattle.pf_maps.specs.Cdb.{cdb_read, damage_text, values_of}
 use Rattle.pf_maps.specs.Meanings.{meaning_of}
-use Rattle.pf_maps.specs.Opening.{tables_opened}
+use Rattle.pf_maps.specs.Opening.{at_first, at_others, pcre_opened, tables_opened}
+use Rattle.pf_maps.specs.Opening.{Event as events}
+use Rattle.pf_maps.specs.Opening.{Unopened as unopened}
 use Rattle.pf_maps.specs.Specification.{group_named, leaf, nodes_of, spec_of}
 use Rattle.pf_maps.specs.declared.node.Node.{Node}
 use Rattle.pf_maps.specs.declared.node.Node.TheVariants as node
@@ -78,15 +84,52 @@ results_of_more = refl
 results_of_the_last : (meaning_of (node.Pipe 2 ∷ node.Fixed (codes "a") ∷ node.Fixed (codes "b") ∷ [])).results ≡ Listed (codes "b" ∷ [])
 results_of_the_last = refl
 
+-- what a pair of a cdb file may give
+null_after_key_and_value : values_of (pair (codes "k" ++ 0 ∷ []) (codes "v" ++ 0 ∷ [])) ≡ (codes "v" ++ 0 ∷ []) ∷ codes "v" ∷ []
+unfolding ends_in_null without_null
+null_after_key_and_value = refl
+
+null_after_value : values_of (pair (codes "k") (codes "v" ++ 0 ∷ [])) ≡ (codes "v" ++ 0 ∷ []) ∷ []
+unfolding ends_in_null
+null_after_value = refl
+
+too_short_for_a_header : cdb_read (codes "t.cdb") true [] ≡ Err (refused (codes "t.cdb") 0 C11 (codes "cdb header"))
+unfolding damage_text
+too_short_for_a_header = refl
+
+-- of tables in turn, what is said of the second one
+first_of_second : at_first {L = ℕ} (Some (1, 5)) ≡ None
+first_of_second = refl
+
+others_of_second : at_others {L = ℕ} (Some (1, 5)) ≡ Some (0, 5)
+others_of_second = refl
+
 -- tables that are opened
 abbrev text : ℕ → List ℕ → TableText
 text line bytes = record { line = line; text = bytes }
 
-pair_in_a_text : tables_opened [] true (record { file = codes "main.cf"; texts = text 7 (codes "inline:{A=b}") ∷ [] }) ≡ Ok ((inline (codes "a") (codes "b") ∷ []) ∷ [])
+pair_in_a_text : tables_opened None [] true (record { file = codes "main.cf"; texts = text 7 (codes "inline:{A=b}") ∷ [] }) ≡ Ok ((inline (codes "a") (codes "b") ∷ []) ∷ [])
 unfolding nodes_of leaf group_named words_of
 pair_in_a_text = refl
 
-first_refusal : tables_opened [] true (record { file = codes "main.cf"; texts = text 7 (codes "static:a") ∷ text 8 (codes "hash:t") ∷ text 9 (codes "btree:t") ∷ [] })
-    ≡ Err (refused (codes "main.cf") 8 C9 (codes "hash:t"))
+first_refusal : tables_opened None [] true (record { file = codes "main.cf"; texts = text 7 (codes "static:a") ∷ text 8 (codes "hash:t") ∷ text 9 (codes "btree:t") ∷ [] })
+    ≡ Err (unopened.refuses (refused (codes "main.cf") 8 C9 (codes "hash:t")))
 unfolding nodes_of leaf group_named
 first_refusal = refl
+
+-- the second of two files in a union is not read: that of a first one that is not there is refused before it
+abbrev absent_and_unreadable : TableTexts
+absent_and_unreadable = record { file = codes "main.cf"; texts = text 7 (codes "unionmap:{texthash:absent,texthash:unreadable}") ∷ [] }
+
+refused_before_the_read : tables_opened (Some (0, (2, events.read_fails))) [] true absent_and_unreadable ≡ Err (unopened.refuses (refused (codes "main.cf") 7 C10 (codes "absent")))
+unfolding nodes_of leaf group_named words_of is_utf8 chars lib.Utf8.encode
+refused_before_the_read = refl
+
+read_that_fails : tables_opened (Some (0, (1, events.read_fails))) [] true absent_and_unreadable ≡ Err (unopened.fails (codes "absent"))
+unfolding nodes_of leaf group_named words_of is_utf8 chars lib.Utf8.encode
+read_that_fails = refl
+
+-- of the file of a table of patterns, no line of which is too large
+no_such_file : pcre_opened None [] (record { file = codes "main.cf"; line = 7 }) (codes "t") ≡ Err (unopened.refuses (refused (codes "main.cf") 7 C10 (codes "t")))
+unfolding is_utf8 chars lib.Utf8.encode
+no_such_file = refl

@@ -1,5 +1,5 @@
 -- What is added for the nodes of a text.
-use Rattle.std.proofs.Common.{◌≡◌, ◌≢◌, ◌<◌, ◌+◌, ◌-◌, ◌++◌, ◌==◌, ℕ, zero, suc, Bool, true, false, drop, get_or, take, List, [], ◌∷◌, Option, None, Some, Result, Ok, Err, refl, sym, ap, ◌∙◌, length, append_assoc, arith, if◌then◌else◌}
+use Rattle.std.proofs.Common.{◌≡◌, ◌≢◌, ◌<◌, ◌+◌, ◌-◌, ◌++◌, ◌==◌, ℕ, zero, suc, Bool, true, false, drop, get_or, take, List, [], ◌∷◌, Option, None, Some, Ok, Err, refl, sym, ap, ◌∙◌, length, append_assoc, arith, if◌then◌else◌}
 use Rattle.std.proofs.lemmas.List.{at_drop_more, length-drop, take_all}
 use Rattle.std.proofs.lemmas.Str.{IsUtf8-from_is_utf8, is_utf8-from_IsUtf8}
 use Rattle.std.specs.List.{position}
@@ -8,14 +8,13 @@ use Rattle.std.specs.Str.{IsUtf8, is_utf8}
 use Rattle.pf_base.specs.Text.Ascii as ascii
 use Rattle.pf_base.specs.Options.{◌>>=◌}
 use Rattle.pf_base.specs.declared.pair.Pair.{Pair}
-use Rattle.pf_base.specs.declared.refused.ConfFault.{ConfFault}
 use Rattle.pf_base.specs.declared.refused.ConfFault.TheVariants as conf_fault
 use Rattle.pf_base.specs.declared.refused.Refused.{Refused}
 use Rattle.pf_base.specs.Clauses.Faults.{as_fault}
 use Rattle.pf_table.specs.Inline as inline
 use Rattle.pf_table.specs.Inline.{inline_of, inline_pairs}
 use Rattle.pf_table.specs.Tables.{Keyed}
-use Rattle.pf_maps.specs.Clauses.Adding.{behind, when}
+use Rattle.pf_maps.specs.Clauses.Adding.{behind}
 use Rattle.pf_maps.specs.Specification.{file_name, group_named, leaf_nodes, group_node, group_of, groups_at, is_inline, members, members_nodes, nodes_of, parted}
 use Rattle.pf_maps.specs.declared.specification.Group.{Group}
 use Rattle.pf_maps.specs.declared.specification.SpecNode.{SpecNode}

@@ -1,6 +1,6 @@
 -- What tables mean that are opened (DATABASE_README; cidr_table(5)), a definition for each kind. How a union joins values, what a member
 -- that fails does, and which of these tables have partial keys, is postgate's own.
-use Rattle.std.specs.Prelude.{ℕ, zero, suc, ◌++◌, Bool, false, List, [], ◌∷◌, Option, None, Some, codes, drop, slice_get}
+use Rattle.std.specs.Prelude.{ℕ, zero, suc, ◌++◌, Bool, false, List, [], ◌∷◌, Option, Some, codes, drop, slice_get}
 use Rattle.std.specs.List.{list_all}
 use Rattle.pf_base.specs.Options.{◌>>=◌}
 use Rattle.pf_asks.specs.Looking.{Meaning}
@@ -11,6 +11,7 @@ use Rattle.pf_asks.specs.declared.lookup.Results.TheVariants.{Listed, Anything}
 use Rattle.pf_cidr.specs.Addresses.{address_of}
 use Rattle.pf_cidr.specs.Tables.{Table, first_rule}
 use Rattle.pf_cidr.specs.declared.address.Addr.{Addr}
+use Rattle.pf_pcre.specs.Tables.{pcre_meaning}
 use Rattle.pf_table.specs.Tables.{fail_meaning, keyed_meaning, static_meaning}
 use Rattle.pf_maps.specs.Cdb.{cdb_meaning, found_as}
 use Rattle.pf_maps.specs.declared.node.Node.{Node}
@@ -90,6 +91,7 @@ abbrev pub onto : Node → List Meaning → List Meaning
 onto (node.Text table) behind = keyed_meaning table ∷ behind
 onto (node.Cdb table) behind = cdb_meaning table ∷ behind
 onto (node.Cidr table) behind = cidr_meaning table ∷ behind
+onto (node.Pcre table) behind = pcre_meaning table ∷ behind
 onto (node.Inline table) behind = keyed_meaning table ∷ behind
 onto (node.Fixed value) behind = static_meaning value ∷ behind
 onto node.Fail behind = fail_meaning ∷ behind

@@ -23,7 +23,7 @@ abbrev pub braced : List ℕ → Option (List ℕ)
 braced [] = None
 braced (b ∷ text) = if b == ascii.left_brace then in_brace text else None
 
--- `texthash:FILE`, `cdb:FILE` and `cidr:FILE`: the name of the file is UTF-8
+-- `texthash:FILE`, `cdb:FILE`, `cidr:FILE` and `pcre:FILE`: the name of the file is UTF-8
 abbrev pub file_name : List ℕ → Option (List ℕ)
 file_name name = if is_utf8 name then Some name else None
 
@@ -35,6 +35,9 @@ cdb_node name = option_map node.Cdb (file_name name)
 
 abbrev pub cidr_node : List ℕ → Option SpecNode
 cidr_node name = option_map node.Cidr (file_name name)
+
+abbrev pub pcre_node : List ℕ → Option SpecNode
+pcre_node name = option_map node.Pcre (file_name name)
 
 -- `inline:{ITEMS}`: what is in the brace is the text of a table
 abbrev pub is_inline : List ℕ → Bool
@@ -59,6 +62,7 @@ leaf kind name =
     if bytes_eq kind (codes "texthash") then text_node name
     else if bytes_eq kind (codes "cdb") then cdb_node name
     else if bytes_eq kind (codes "cidr") then cidr_node name
+    else if bytes_eq kind (codes "pcre") then pcre_node name
     else if bytes_eq kind (codes "inline") then inline_node name
     else if bytes_eq kind (codes "static") then fixed_node name
     else if bytes_eq kind (codes "fail") then Some node.Fail

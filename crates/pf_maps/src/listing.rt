@@ -14,6 +14,7 @@ fn node_pairs(alloc: Global, node: &Node) -> Result<List<Pair>, NoMemory>
         Node::Inline(table) => table.pairs(alloc),
         Node::Cdb(table) => table.listed(alloc),
         Node::Cidr(_) => Ok(List::new(alloc)),
+        Node::Pcre(_) => Ok(List::new(alloc)),
         Node::Fixed(_) => Ok(List::new(alloc)),
         Node::Fail => Ok(List::new(alloc)),
         Node::Union(_) => Ok(List::new(alloc)),

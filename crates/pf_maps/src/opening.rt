@@ -1,20 +1,20 @@
 //! How tables are opened.
-ghost use Rattle.std.specs.Prelude.{◌≡◌, Ok, IfOk};
+ghost use Rattle.std.specs.Prelude.{◌≡◌, Ok, IfErr, IfOk, false};
 ghost use Rattle.std.specs.Str.{IsUtf8};
 ghost use Rattle.pf_base.specs.Clauses.Unless.{Unless};
 ghost use Rattle.pf_base.specs.Clauses.Faults.{as_fault};
-ghost use Rattle.pf_maps.specs.Clauses.Opened.{Opens, fault_of, held_as};
+ghost use Rattle.pf_maps.specs.Clauses.Opened.{Opens, OpensWith, fault_of, held_as, names_size};
 ghost use Rattle.pf_maps.specs.Opening as opening;
 
 use crate::cdb_table::CdbTable;
 use crate::net_table::NetTable;
-use crate::node::Node;
+use crate::node::{Node, Nodes, Opened};
 use crate::specification::{SpecNode, spec};
 use pf_base::{
-    Bytes, Cause, ConfFault, Files, List, NoMemory, ReadFault, Refused, Specs, TableId, read_all,
-    refuse,
+    Bytes, Cause, ConfFault, Files, NoMemory, ReadFault, Refused, Specs, TableId, read_all, refuse,
 };
 use pf_cidr::CidrTable;
+use pf_pcre::{Patterns, PcreTable};
 use pf_table::{Inline, Repeats, StaticTable, TextRead, TextTable};
 use std::alloc::Global;
 
@@ -23,9 +23,9 @@ use std::alloc::Global;
 pub enum OpenFault {
     /// A table is refused.
     Refused(Refused),
-    /// The file of this name was not read, and the count of faults of the files rose.
+    /// The read of the file of this name failed, and the count of faults of the files rose.
     Failed { file: Bytes },
-    /// Memory was wanting.
+    /// Out of memory.
     NoMemory,
 }
 
@@ -54,7 +54,8 @@ fn table_text<F: Files>(
     name: &[u8],
     files: &mut F,
 ) -> Result<Bytes, OpenFault>
-    ensures { Opens (F.known files.old) (F.known files.new) (λ all. opening.table_text all place.now name.now) result }
+    ensures opens { Opens (F.known files.old) (F.known files.new) (λ failed all. opening.table_text failed all place.now name.now) result }
+    ensures small { IfErr result (λ fault. names_size fault ≡ false) }
 {
     let Ok(text) = str::from_utf8(name) else {
         return Err(OpenFault::of(refuse(
@@ -86,7 +87,8 @@ fn table_text<F: Files>(
 }
 
 /// The text of the file of a table. It is refused as C10 where it is not there, and as C15 where it has more than 64 MiB, with
-/// the file and the line where it is named, and its name. `Failed` comes only where the count of faults of `files` rose by one.
+/// the file and the line where it is named, and its name. `Failed` names it too, and comes only where the count of faults of
+/// `files` rose by one.
 pub fn file_text<F: Files>(
     alloc: Global,
     file: &[u8],
@@ -94,7 +96,8 @@ pub fn file_text<F: Files>(
     name: &[u8],
     files: &mut F,
 ) -> Result<Bytes, OpenFault>
-    ensures opens { Opens (F.known files.old) (F.known files.new) (λ all. opening.table_text all (record { file = file.now; line = line }) name.now) result }
+    ensures opens { Opens (F.known files.old) (F.known files.new) (λ failed all. opening.table_text failed all (record { file = file.now; line = line }) name.now) result }
+    ensures small { IfErr result (λ fault. names_size fault ≡ false) }
     ensures text { IfOk result (λ text. IsUtf8 name.now) }
 {
     let Ok(_) = str::from_utf8(name) else {
@@ -113,7 +116,8 @@ fn open_text<F: Files>(
     name: &[u8],
     files: &mut F,
 ) -> Result<Node, OpenFault>
-    ensures { Opens (F.known files.old) (F.known files.new) (λ all. opening.text_opened all place.now folded name.now) result }
+    ensures opens { Opens (F.known files.old) (F.known files.new) (λ failed all. opening.text_opened failed all place.now folded name.now) result }
+    ensures small { IfErr result (λ fault. names_size fault ≡ false) }
 {
     let text = table_text(alloc, place, name, files)?;
     match TextTable::read(alloc, name, text.as_slice(), folded, Repeats::First) {
@@ -139,7 +143,8 @@ fn open_cdb_file<F: Files>(
     file: &[u8],
     files: &mut F,
 ) -> Result<Node, OpenFault>
-    ensures { Opens (F.known files.old) (F.known files.new) (λ all. opening.cdb_file_opened all place.now folded file.now) result }
+    ensures opens { Opens (F.known files.old) (F.known files.new) (λ failed all. opening.cdb_file_opened failed all place.now folded file.now) result }
+    ensures small { IfErr result (λ fault. names_size fault ≡ false) }
 {
     let bytes = table_text(alloc, place, file, files)?;
     match CdbTable::read(alloc, file, bytes, folded) {
@@ -155,7 +160,8 @@ fn open_cdb<F: Files>(
     name: &[u8],
     files: &mut F,
 ) -> Result<Node, OpenFault>
-    ensures { Opens (F.known files.old) (F.known files.new) (λ all. opening.cdb_opened all place.now folded name.now) result }
+    ensures opens { Opens (F.known files.old) (F.known files.new) (λ failed all. opening.cdb_opened failed all place.now folded name.now) result }
+    ensures small { IfErr result (λ fault. names_size fault ≡ false) }
 {
     match cdb_name(alloc, name) {
         Ok(file) => open_cdb_file(alloc, place, folded, file.as_slice(), files),
@@ -169,11 +175,28 @@ fn open_cidr<F: Files>(
     name: &[u8],
     files: &mut F,
 ) -> Result<Node, OpenFault>
-    ensures { Opens (F.known files.old) (F.known files.new) (λ all. opening.cidr_opened all place.now name.now) result }
+    ensures opens { Opens (F.known files.old) (F.known files.new) (λ failed all. opening.cidr_opened failed all place.now name.now) result }
+    ensures small { IfErr result (λ fault. names_size fault ≡ false) }
 {
     let text = table_text(alloc, place, name, files)?;
     match CidrTable::read(alloc, name, text.as_slice()) {
         Ok(table) => Ok(Node::Cidr(NetTable::new(table))),
+        Err(fault) => Err(OpenFault::of(fault)),
+    }
+}
+
+fn open_pcre<F: Files>(
+    alloc: Global,
+    place: &Place,
+    name: &[u8],
+    files: &mut F,
+    patterns: &mut Patterns,
+) -> Result<Node, OpenFault>
+    ensures { OpensWith (F.known files.old) (F.known files.new) patterns.old patterns.new (λ event all. opening.pcre_opened event all place.now name.now) result }
+{
+    let text = table_text(alloc, place, name, files)?;
+    match PcreTable::read(alloc, name, text.as_slice(), patterns) {
+        Ok(table) => Ok(Node::Pcre(table)),
         Err(fault) => Err(OpenFault::of(fault)),
     }
 }
@@ -212,13 +235,15 @@ fn open_node<F: Files>(
     folded: bool,
     node: &SpecNode,
     files: &mut F,
+    patterns: &mut Patterns,
 ) -> Result<Node, OpenFault>
-    ensures { Opens (F.known files.old) (F.known files.new) (λ all. opening.node_opened all place.now folded node.now) result }
+    ensures { OpensWith (F.known files.old) (F.known files.new) patterns.old patterns.new (λ event all. opening.node_opened event all place.now folded node.now) result }
 {
     match node {
         SpecNode::Text(name) => open_text(alloc, place, folded, name.as_slice(), files),
         SpecNode::Cdb(name) => open_cdb(alloc, place, folded, name.as_slice(), files),
         SpecNode::Cidr(name) => open_cidr(alloc, place, name.as_slice(), files),
+        SpecNode::Pcre(name) => open_pcre(alloc, place, name.as_slice(), files, patterns),
         SpecNode::Inline(text) => held(open_inline(alloc, place, folded, text.as_slice())),
         SpecNode::Fixed(value) => held(open_fixed(alloc, value)),
         SpecNode::Fail => Ok(Node::Fail),
@@ -233,12 +258,13 @@ fn open_nodes<F: Files>(
     folded: bool,
     nodes: &[SpecNode],
     files: &mut F,
-) -> Result<List<Node>, OpenFault>
-    ensures { Opens (F.known files.old) (F.known files.new) (λ all. opening.nodes_opened all place.now folded nodes.now) result }
+    patterns: &mut Patterns,
+) -> Result<Nodes, OpenFault>
+    ensures { OpensWith (F.known files.old) (F.known files.new) patterns.old patterns.new (λ event all. opening.nodes_opened event all place.now folded nodes.now) result }
 {
-    let mut opened = List::new(alloc);
+    let mut opened = Nodes::new(alloc);
     for node in nodes {
-        let one = open_node(alloc, place, folded, node, files)?;
+        let one = open_node(alloc, place, folded, node, files, patterns)?;
         let Ok(()) = opened.push(one) else {
             return Err(OpenFault::NoMemory);
         };
@@ -252,11 +278,12 @@ fn open_table<F: Files>(
     folded: bool,
     text: &[u8],
     files: &mut F,
-) -> Result<List<Node>, OpenFault>
-    ensures { Opens (F.known files.old) (F.known files.new) (λ all. opening.table_opened all folded place.now text.now) result }
+    patterns: &mut Patterns,
+) -> Result<Nodes, OpenFault>
+    ensures { OpensWith (F.known files.old) (F.known files.new) patterns.old patterns.new (λ event all. opening.table_opened event all folded place.now text.now) result }
 {
     match spec(alloc, place.file.as_slice(), place.line, text) {
-        Ok(nodes) => open_nodes(alloc, place, folded, nodes.as_slice(), files),
+        Ok(nodes) => open_nodes(alloc, place, folded, nodes.as_slice(), files, patterns),
         Err(fault) => Err(OpenFault::of(fault)),
     }
 }
@@ -267,10 +294,11 @@ pub(crate) fn open_tables<F: Files>(
     specs: &Specs,
     folded: bool,
     files: &mut F,
-) -> Result<List<List<Node>>, OpenFault>
-    ensures { Opens (F.known files.old) (F.known files.new) (λ all. opening.tables_opened all folded specs.now) result }
+    patterns: &mut Patterns,
+) -> Result<Opened, OpenFault>
+    ensures { OpensWith (F.known files.old) (F.known files.new) patterns.old patterns.new (λ event all. opening.tables_opened event all folded specs.now) result }
 {
-    let mut tables = List::new(alloc);
+    let mut tables = Opened::new(alloc);
     for place in 0..specs.len() {
         let id = TableId(place);
         let Ok(file) = specs.file().copy(alloc) else {
@@ -280,7 +308,14 @@ pub(crate) fn open_tables<F: Files>(
             file,
             line: specs.line(id),
         };
-        let table = open_table(alloc, &at, folded, specs.text(id).as_slice(), files)?;
+        let table = open_table(
+            alloc,
+            &at,
+            folded,
+            specs.text(id).as_slice(),
+            files,
+            patterns,
+        )?;
         let Ok(()) = tables.push(table) else {
             return Err(OpenFault::NoMemory);
         };

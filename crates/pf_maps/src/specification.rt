@@ -24,6 +24,8 @@ pub enum SpecNode {
     Cdb(Bytes),
     /// `cidr:`, with the name of the file.
     Cidr(Bytes),
+    /// `pcre:`, with the name of the file.
+    Pcre(Bytes),
     /// `inline:`, with the text between its braces.
     Inline(Bytes),
     /// `static:`, with its value.
@@ -114,6 +116,15 @@ fn cidr_node(alloc: Global, name: &[u8]) -> Result<Option<SpecNode>, NoMemory>
     }
 }
 
+fn pcre_node(alloc: Global, name: &[u8]) -> Result<Option<SpecNode>, NoMemory>
+    ensures { IfOk result (λ node. node ≡ naming.pcre_node name.now) }
+{
+    match file_name(alloc, name)? {
+        None => Ok(None),
+        Some(file) => Ok(Some(SpecNode::Pcre(file))),
+    }
+}
+
 // Whether a text is one of an inline table.
 fn is_inline(alloc: Global, text: &[u8]) -> Result<bool, NoMemory>
     ensures { IfOk result (λ is. is ≡ naming.is_inline text.now) }
@@ -175,6 +186,8 @@ fn leaf(alloc: Global, kind: &[u8], name: &[u8]) -> Result<Option<SpecNode>, NoM
         cdb_node(alloc, name)
     } else if kind == b"cidr".as_slice() {
         cidr_node(alloc, name)
+    } else if kind == b"pcre".as_slice() {
+        pcre_node(alloc, name)
     } else if kind == b"inline".as_slice() {
         inline_node(alloc, name)
     } else if kind == b"static".as_slice() {
@@ -308,7 +321,7 @@ fn nodes_of(alloc: Global, text: &[u8]) -> Result<Option<List<SpecNode>>, NoMemo
     }
 }
 
-/// The tables that a text names, the outermost first: `texthash:FILE`, `cdb:FILE`, whose file is FILE.cdb, `cidr:FILE`, `inline:{KEY=VALUE ..}`, `static:VALUE` or
+/// The tables that a text names, the outermost first: `texthash:FILE`, `cdb:FILE`, whose file is FILE.cdb, `cidr:FILE`, `pcre:FILE`, `inline:{KEY=VALUE ..}`, `static:VALUE` or
 /// `static:{VALUE}`, `fail:NAME`, `unionmap:{TEXT, ..}` and `pipemap:{TEXT, ..}`, whose members are after them in order, each
 /// with its own (DATABASE_README). A text of another type, without a colon, with braces or items that are not of its form, a
 /// file name that is no UTF-8, a union or pipe without members or nested more than 20 deep, is refused as C9, with this file and

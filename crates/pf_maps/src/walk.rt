@@ -2,12 +2,14 @@
 ghost use Rattle.std.specs.Prelude.{◌≡◌, ◌≤◌, ◌-◌, Ok, drop, length, IfOk};
 ghost use Rattle.pf_asks.specs.Looking.{answer_of};
 ghost use Rattle.pf_base.specs.Clauses.Unless.{Unless};
+ghost use Rattle.pf_pcre.specs.Tables.{pcre_meaning};
 ghost use Rattle.pf_maps.specs.Meanings as meanings;
 ghost use Rattle.pf_maps.specs.Meanings.{firsts, meaning_of, meanings_of};
 
 use crate::node::Node;
 use pf_asks::{Found, Results, TableFault};
 use pf_base::{Bytes, List, NoMemory};
+use pf_pcre::PcreTable;
 use pf_table::Table;
 use std::alloc::Global;
 
@@ -15,6 +17,7 @@ use std::alloc::Global;
 #[cycle(passing)]
 fn behind_table(nodes: &[Node]) -> &[Node]
     ensures is { meanings_of result.now ≡ drop 1 (meanings_of nodes.now) }
+    ensures suffix { result.now ≡ drop (length nodes.now - length result.now) nodes.now }
     ensures shorter { length result.now ≤ length nodes.now - 1 }
 {
     let [first, behind @ ..] = nodes else {
@@ -31,6 +34,7 @@ fn behind_table(nodes: &[Node]) -> &[Node]
 #[cycle(passing)]
 fn behind_tables(nodes: &[Node], count: u64) -> &[Node]
     ensures is { meanings_of result.now ≡ drop count (meanings_of nodes.now) }
+    ensures suffix { result.now ≡ drop (length nodes.now - length result.now) nodes.now }
     ensures shorter { length result.now ≤ length nodes.now }
 {
     let mut left = nodes;
@@ -65,18 +69,54 @@ fn joined_to(mut value: Bytes, other: Found) -> Result<Found, TableFault>
     }
 }
 
+// What a table of patterns has for a key.
+fn find_pattern(alloc: Global, table: &mut PcreTable, key: &[u8]) -> Result<Found, TableFault>
+    ensures is { Unless result TableFault.NoMemory (λ r. r ≡ answer_of (pcre_meaning table.old) key.now) }
+    ensures same { table.new ≡ table.old }
+{
+    match table.find(alloc, key) {
+        Ok(found) => Ok(found),
+        Err(NoMemory) => Err(TableFault::NoMemory),
+    }
+}
+
+// The place of what is after the table at a place.
+fn place_behind(nodes: &[Node], place: usize) -> usize
+    requires { place ≤ length nodes.now }
+    ensures is { meanings_of (drop result nodes.now) ≡ drop 1 (meanings_of (drop place nodes.now)) }
+    ensures within { result ≤ length nodes.now }
+{
+    nodes.len() - behind_table(&nodes[place..]).len()
+}
+
+// What the table at a place has for a key.
+#[cycle(finding)]
+fn find_at(alloc: Global, nodes: &mut [Node], place: usize, key: &[u8]) -> Result<Found, TableFault>
+    requires { place ≤ length nodes.old }
+    ensures is { Unless result TableFault.NoMemory (λ r. r ≡ answer_of (meaning_of (drop place nodes.old)) key.now) }
+    ensures same { nodes.new ≡ nodes.old }
+{
+    find_table(alloc, &mut nodes[place..], key)
+}
+
 // What a union of the first tables has for a key.
 #[cycle(finding)]
-fn find_union(alloc: Global, nodes: &[Node], count: u64, key: &[u8]) -> Result<Found, TableFault>
-    ensures { Unless result TableFault.NoMemory (λ r. r ≡ answer_of (meanings.union_meaning (firsts count (meanings_of nodes.now))) key.now) }
+fn find_union(
+    alloc: Global,
+    nodes: &mut [Node],
+    count: u64,
+    key: &[u8],
+) -> Result<Found, TableFault>
+    ensures is { Unless result TableFault.NoMemory (λ r. r ≡ answer_of (meanings.union_meaning (firsts count (meanings_of nodes.old))) key.now) }
+    ensures same { nodes.new ≡ nodes.old }
 {
     let mut found = Found::Absent;
-    let mut left = nodes;
+    let mut place: usize = 0;
     let mut more = count;
     'members: while more > 0 {
-        let one = find_table(alloc, left, key)?;
+        let one = find_at(alloc, nodes, place, key)?;
         found = joined(found, one)?;
-        left = behind_table(left);
+        place = place_behind(nodes, place);
         more -= 1;
     }
     Ok(found)
@@ -84,20 +124,21 @@ fn find_union(alloc: Global, nodes: &[Node], count: u64, key: &[u8]) -> Result<F
 
 // What a pipe of the first tables has for a key.
 #[cycle(finding)]
-fn find_pipe(alloc: Global, nodes: &[Node], count: u64, key: &[u8]) -> Result<Found, TableFault>
-    ensures { Unless result TableFault.NoMemory (λ r. r ≡ answer_of (meanings.pipe_meaning (firsts count (meanings_of nodes.now))) key.now) }
+fn find_pipe(alloc: Global, nodes: &mut [Node], count: u64, key: &[u8]) -> Result<Found, TableFault>
+    ensures is { Unless result TableFault.NoMemory (λ r. r ≡ answer_of (meanings.pipe_meaning (firsts count (meanings_of nodes.old))) key.now) }
+    ensures same { nodes.new ≡ nodes.old }
 {
     let Ok(mut value) = Bytes::from_slice(alloc, key) else {
         return Err(TableFault::NoMemory);
     };
-    let mut left = nodes;
+    let mut place: usize = 0;
     let mut more = count;
     'members: while more > 0 {
-        match find_table(alloc, left, value.as_slice())? {
+        match find_at(alloc, nodes, place, value.as_slice())? {
             Found::Absent => return Ok(Found::Absent),
             Found::Value(next) => value = next,
         }
-        left = behind_table(left);
+        place = place_behind(nodes, place);
         more -= 1;
     }
     Ok(Found::Value(value))
@@ -105,21 +146,29 @@ fn find_pipe(alloc: Global, nodes: &[Node], count: u64, key: &[u8]) -> Result<Fo
 
 /// What the first table has for a key; where there is none it fails.
 #[cycle(finding)]
-pub(crate) fn find_table(alloc: Global, nodes: &[Node], key: &[u8]) -> Result<Found, TableFault>
-    ensures { Unless result TableFault.NoMemory (λ r. r ≡ answer_of (meaning_of nodes.now) key.now) }
+pub(crate) fn find_table(alloc: Global, nodes: &mut [Node], key: &[u8]) -> Result<Found, TableFault>
+    ensures is { Unless result TableFault.NoMemory (λ r. r ≡ answer_of (meaning_of nodes.old) key.now) }
+    ensures same { nodes.new ≡ nodes.old }
 {
-    let [first, behind @ ..] = nodes else {
+    if nodes.len() == 0 {
         return Err(TableFault::Fails);
-    };
-    match first {
+    }
+    match &mut nodes[0] {
         Node::Text(table) => table.find(alloc, key),
         Node::Cdb(table) => table.find(alloc, key),
         Node::Cidr(table) => table.find(alloc, key),
+        Node::Pcre(table) => find_pattern(alloc, table, key),
         Node::Inline(table) => table.find(alloc, key),
         Node::Fixed(table) => table.find(alloc, key),
         Node::Fail => Err(TableFault::Fails),
-        Node::Union(count) => find_union(alloc, behind, *count, key),
-        Node::Pipe(count) => find_pipe(alloc, behind, *count, key),
+        Node::Union(count) => {
+            let count = *count;
+            find_union(alloc, &mut nodes[1..], count, key)
+        }
+        Node::Pipe(count) => {
+            let count = *count;
+            find_pipe(alloc, &mut nodes[1..], count, key)
+        }
     }
 }
 
@@ -152,6 +201,7 @@ pub(crate) fn has_partial_keys(nodes: &[Node]) -> bool
         Node::Text(table) => table.partial_keys(),
         Node::Cdb(table) => table.partial_keys(),
         Node::Cidr(table) => table.partial_keys(),
+        Node::Pcre(_) => false,
         Node::Inline(table) => table.partial_keys(),
         Node::Fixed(table) => table.partial_keys(),
         Node::Fail => true,
@@ -197,6 +247,7 @@ pub(crate) fn results_of(alloc: Global, nodes: &[Node]) -> Result<Results, NoMem
         Node::Text(table) => table.results(alloc),
         Node::Cdb(table) => table.results(alloc),
         Node::Cidr(table) => table.results(alloc),
+        Node::Pcre(table) => table.results(alloc),
         Node::Inline(table) => table.results(alloc),
         Node::Fixed(table) => table.results(alloc),
         Node::Fail => Ok(Results::Listed(List::new(alloc))),

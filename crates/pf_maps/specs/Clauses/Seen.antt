@@ -3,11 +3,11 @@ use Rattle.std.specs.Prelude.{ℕ, true, List, [], Option, None, Some, Result, O
 use Rattle.pf_base.specs.Outside.Counts.{counted_by}
 use Rattle.pf_base.specs.Results.{◌>>=◌}
 use Rattle.pf_base.specs.declared.pair.Pair.{Pair}
-use Rattle.pf_base.specs.declared.refused.Refused.{Refused}
 use Rattle.pf_asks.specs.Looking.{Meaning, Tables, Values}
 use Rattle.pf_table.specs.Tables.{fail_meaning}
 use Rattle.pf_maps.specs.Listing.{pairs_of}
 use Rattle.pf_maps.specs.Meanings.{meaning_of}
+use Rattle.pf_maps.specs.Opening.{Unopened}
 use Rattle.pf_maps.specs.declared.node.Node.{Node}
 
 -- the tables, each by its nodes, and how many lookups there were
@@ -44,7 +44,7 @@ abbrev pub with_find : OpenTables → OpenTables
 with_find open_tables = record open_tables { finds = counted_by 1 open_tables.finds }
 
 -- tables as they are opened
-abbrev pub opened : Result (List (List Node)) Refused → Result OpenTables Refused
+abbrev pub opened : Result (List (List Node)) Unopened → Result OpenTables Unopened
 opened answer = do
   tables ← answer
   Ok (record { tables = tables; finds = 0 })
