@@ -1,5 +1,5 @@
 //! A case file, parted into what all its cases share and its cases.
-use crate::lines::{case_name, is_silent, section_title};
+use crate::lines::{case_name, first_part, is_silent, section_title};
 use pf_base::{Bytes, NoMemory};
 use std::alloc::Global;
 
@@ -87,21 +87,39 @@ impl CaseFile {
             cases: Vec::new(alloc),
         };
         let mut in_rows = false;
-        for line in text.split(|b| *b == b'\n') {
+        let mut left = text;
+        for _ in 0..u64::MAX {
+            let (line, after) = first_part(left, b'\n');
             in_rows = file.take(alloc, line, in_rows)?;
+            let Some(after) = after else {
+                break;
+            };
+            left = after;
         }
         Ok(file)
     }
 
     /// Whether two cases have one name.
     pub fn has_twins(&self) -> bool {
-        for (place, case) in self.cases.iter().enumerate() {
-            for other in self.cases.iter().skip(place.saturating_add(1)) {
-                if other.name.as_slice() == case.name.as_slice() {
-                    return true;
-                }
+        let mut left = self.cases.as_slice();
+        for _ in 0..u64::MAX {
+            let [case, others @ ..] = left else {
+                return false;
+            };
+            if has_named(others, case.name.as_slice()) {
+                return true;
             }
+            left = others;
         }
         false
     }
+}
+
+fn has_named(cases: &[Case], name: &[u8]) -> bool {
+    for case in cases {
+        if case.name.as_slice() == name {
+            return true;
+        }
+    }
+    false
 }

@@ -1,25 +1,25 @@
 //! The lines of a case file: which of them are titles, and the numbers in them.
-use pf_base::trimmed;
+use pf_base::{cut_at, trimmed, without_return};
 
 /// The greatest number that a statement or an escape may have.
 const MOST: u64 = 4_294_967_296;
 
-// A line without the blanks, tabs and CRs at its end.
-fn without_end(line: &[u8]) -> &[u8] {
-    match line
-        .iter()
-        .rposition(|b| !matches!(*b, b' ' | b'\t' | b'\r'))
-    {
-        None => b"",
-        Some(last) => line.get(..last.saturating_add(1)).unwrap_or(line),
+/// The first part of a text that such bytes part, and what is after the byte that ends it; None where no such byte does.
+pub fn first_part(text: &[u8], byte: u8) -> (&[u8], Option<&[u8]>) {
+    match cut_at(text, byte) {
+        None => (text, None),
+        Some((part, after)) => (part, Some(after)),
     }
 }
 
 // What is between two marks, without the blanks round it; blanks and a CR after the second mark do not count.
 fn between<'a>(line: &'a [u8], prefix: &[u8], end: &[u8]) -> Option<&'a [u8]> {
-    match line.strip_prefix(prefix) {
+    if !line.starts_with(prefix) {
+        return None;
+    }
+    match trimmed(without_return(line)).strip_prefix(prefix) {
         None => None,
-        Some(rest) => match without_end(rest).strip_suffix(end) {
+        Some(rest) => match rest.strip_suffix(end) {
             None => None,
             Some(inner) => Some(trimmed(inner)),
         },
@@ -41,28 +41,20 @@ pub fn is_silent(line: &[u8]) -> bool {
     trimmed(line).is_empty() || line.starts_with(b"#")
 }
 
-/// A number with one more digit; None where it is too great.
-pub fn with_digit(number: u64, digit: u8) -> Option<u64> {
-    let more = number
-        .saturating_mul(10)
-        .saturating_add(u64::from(digit.wrapping_sub(b'0')));
-    if more > MOST { None } else { Some(more) }
-}
-
 /// The number that these digits write.
 pub fn number(digits: &[u8]) -> Option<u64> {
-    if digits.is_empty() {
-        return None;
-    }
-    let mut number = 0;
+    let mut number: u64 = 0;
     for digit in digits {
-        if !digit.is_ascii_digit() {
+        if !digit.is_ascii_digit() || number > MOST {
             return None;
         }
-        match with_digit(number, *digit) {
-            None => return None,
-            Some(more) => number = more,
-        }
+        number = number
+            .saturating_mul(10)
+            .saturating_add(u64::from(digit.wrapping_sub(b'0')));
     }
-    Some(number)
+    if digits.is_empty() || number > MOST {
+        None
+    } else {
+        Some(number)
+    }
 }

@@ -1,11 +1,11 @@
 //! Reading the shared part of a file, or a case's own: statements and sections, line by line.
 use crate::command::command_of;
 use crate::escapes::add_unescaped;
-use crate::lines::{is_silent, section_title};
+use crate::lines::{first_part, is_silent, section_title};
 use crate::plan::{Layer, Plan, Text, begin_file};
 use crate::refusal::{Fault, Refusal};
 use crate::statement::{Statement, statement_of};
-use pf_base::Bytes;
+use pf_base::{Bytes, cut_at};
 use std::alloc::Global;
 
 /// What begins the line of a case that the reader has to refuse.
@@ -78,7 +78,8 @@ fn begin_named(
         None => (title, false),
         Some(name) => (name, true),
     };
-    if !name.iter().any(|b| *b == b'.' || *b == b'/') || str::from_utf8(name).is_err() {
+    let names_file = cut_at(name, b'.').is_some() || cut_at(name, b'/').is_some();
+    if !names_file || str::from_utf8(name).is_err() {
         return Err(Fault::Refused(Refusal::Section));
     }
     let files = if is_afterwards {
@@ -199,8 +200,10 @@ impl Reader {
 
     // Takes note of a statement. Several calls may fail; any other kind comes once in a part.
     fn say(&mut self, statement: Statement) -> Result<(), Fault> {
-        if self.said.iter().any(|said| *said == statement) {
-            return Err(Fault::Refused(Refusal::TwoStatements));
+        for said in &self.said {
+            if *said == statement {
+                return Err(Fault::Refused(Refusal::TwoStatements));
+            }
         }
         if !matches!(statement, Statement::Fails(_)) {
             self.said.push(statement)?;
@@ -221,7 +224,7 @@ impl Reader {
             plan.words = Some(words);
             return Ok(());
         }
-        let (statement, number) = statement_of(alloc, line)?;
+        let (statement, number) = statement_of(line)?;
         self.say(statement)?;
         plan.apply(statement, number, self.layer)?;
         Ok(())
@@ -246,16 +249,27 @@ impl Reader {
             },
         }
     }
+
+    // Takes a line.
+    fn take(&mut self, alloc: Global, plan: &mut Plan, line: &[u8]) -> Result<(), Fault> {
+        match section_title(line) {
+            Some(title) => self.open(alloc, plan, title),
+            None => self.take_line(alloc, plan, line),
+        }
+    }
 }
 
 /// Reads a part into the plan.
 pub fn read_part(alloc: Global, plan: &mut Plan, layer: Layer, text: &[u8]) -> Result<(), Fault> {
     let mut reader = Reader::new(alloc, layer);
-    for line in text.split(|b| *b == b'\n') {
-        match section_title(line) {
-            Some(title) => reader.open(alloc, plan, title)?,
-            None => reader.take_line(alloc, plan, line)?,
-        }
+    let mut left = text;
+    for _ in 0..u64::MAX {
+        let (line, after) = first_part(left, b'\n');
+        reader.take(alloc, plan, line)?;
+        let Some(after) = after else {
+            break;
+        };
+        left = after;
     }
     Ok(())
 }

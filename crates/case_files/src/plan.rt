@@ -138,7 +138,14 @@ impl Plan {
 
 // The place of the file of this name.
 fn place_of(files: &[Named], name: &[u8]) -> Option<usize> {
-    files.iter().position(|file| file.name.as_slice() == name)
+    let mut place: usize = 0;
+    for file in files {
+        if file.name.as_slice() == name {
+            return Some(place);
+        }
+        place = place.saturating_add(1);
+    }
+    None
 }
 
 /// The file of this name, which is begun anew; None where this layer named it before.
@@ -166,8 +173,10 @@ pub fn begin_file(
 
 /// The text of the file of this name.
 pub fn text_of<'a>(files: &'a [Named], name: &[u8]) -> Option<&'a [u8]> {
-    match files.iter().find(|file| file.name.as_slice() == name) {
-        None => None,
-        Some(file) => Some(file.text.bytes.as_slice()),
+    for file in files {
+        if file.name.as_slice() == name {
+            return Some(file.text.bytes.as_slice());
+        }
     }
+    None
 }

@@ -1,6 +1,6 @@
 //! What a case, or one row of it, says, from its two texts.
 use crate::case_file::{Case, CaseFile};
-use crate::lines::section_title;
+use crate::lines::{first_part, section_title};
 use crate::part::{REFUSED, read_part};
 use crate::plan::{Layer, Plan};
 use crate::refusal::Fault;
@@ -10,7 +10,18 @@ use pf_base::{Bytes, NoMemory};
 use std::alloc::Global;
 
 fn has_line(text: &[u8], wanted: &[u8]) -> bool {
-    text.split(|b| *b == b'\n').any(|line| line == wanted)
+    let mut left = text;
+    for _ in 0..u64::MAX {
+        let (line, after) = first_part(left, b'\n');
+        if line == wanted {
+            return true;
+        }
+        let Some(after) = after else {
+            return false;
+        };
+        left = after;
+    }
+    false
 }
 
 /// Reads a case, or one row of it, after what all cases of its file share.
@@ -27,13 +38,16 @@ pub fn plan_of(alloc: Global, file: &CaseFile, case: &Case, row: Row<'_>) -> Res
 
 // The words with which a reader has to refuse a part, from its statements.
 fn refused_in(text: &[u8]) -> Option<&[u8]> {
-    for line in text.split(|b| *b == b'\n') {
+    let mut left = text;
+    for _ in 0..u64::MAX {
+        let (line, after) = first_part(left, b'\n');
         if section_title(line).is_some() {
             return None;
         }
         if let Some(words) = line.strip_prefix(REFUSED) {
             return Some(words);
         }
+        left = after?;
     }
     None
 }

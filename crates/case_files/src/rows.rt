@@ -1,4 +1,5 @@
 //! The rows of a case: its text once more, with the cells of a row in the place of `{column}`.
+use crate::lines::first_part;
 use crate::refusal::{Fault, Refusal};
 use pf_base::{Bytes, NoMemory, cut_at, trimmed};
 use std::alloc::Global;
@@ -10,30 +11,49 @@ pub struct Row<'a> {
     cells: &'a [u8],
 }
 
-fn count_cells(line: &[u8]) -> u64 {
-    let mut count: u64 = 0;
-    for _ in line.split(|b| *b == b'|') {
-        count = count.saturating_add(1);
-    }
-    count
-}
-
-// How many columns have this name.
-fn count_named(columns: &[u8], name: &[u8]) -> u64 {
-    let mut count: u64 = 0;
-    for column in columns.split(|b| *b == b'|') {
+// Whether one of the columns has this name.
+fn has_column(columns: &[u8], name: &[u8]) -> bool {
+    let mut left = columns;
+    for _ in 0..u64::MAX {
+        let (column, after) = first_part(left, b'|');
         if trimmed(column) == name {
-            count = count.saturating_add(1);
+            return true;
         }
+        let Some(after) = after else {
+            return false;
+        };
+        left = after;
     }
-    count
+    false
 }
 
 // Whether two columns have one name.
 fn has_twins(columns: &[u8]) -> bool {
-    for column in columns.split(|b| *b == b'|') {
-        if count_named(columns, trimmed(column)) > 1 {
+    let mut left = columns;
+    for _ in 0..u64::MAX {
+        let (column, Some(after)) = first_part(left, b'|') else {
+            return false;
+        };
+        if has_column(after, trimmed(column)) {
             return true;
+        }
+        left = after;
+    }
+    false
+}
+
+// Whether there are as many cells as columns.
+fn are_as_many(columns: &[u8], cells: &[u8]) -> bool {
+    let mut columns = columns;
+    let mut cells = cells;
+    for _ in 0..u64::MAX {
+        match (cut_at(columns, b'|'), cut_at(cells, b'|')) {
+            (Some((_, more_columns)), Some((_, more_cells))) => {
+                columns = more_columns;
+                cells = more_cells;
+            }
+            (None, None) => return true,
+            _ => return false,
         }
     }
     false
@@ -52,7 +72,7 @@ impl<'a> Row<'a> {
     pub fn new(columns: &'a [u8], cells: &'a [u8]) -> Result<Row<'a>, Fault> {
         if has_twins(columns) {
             Err(Fault::Refused(Refusal::Columns))
-        } else if count_cells(columns) == count_cells(cells) {
+        } else if are_as_many(columns, cells) {
             Ok(Row { columns, cells })
         } else {
             Err(Fault::Refused(Refusal::Cells))
@@ -61,11 +81,16 @@ impl<'a> Row<'a> {
 
     // The cell of the column of this name.
     fn cell(&self, name: &[u8]) -> Option<&'a [u8]> {
-        let columns = self.columns.split(|b| *b == b'|');
-        for (column, cell) in columns.zip(self.cells.split(|b| *b == b'|')) {
+        let mut columns = self.columns;
+        let mut cells = self.cells;
+        for _ in 0..u64::MAX {
+            let (column, more_columns) = first_part(columns, b'|');
+            let (cell, more_cells) = first_part(cells, b'|');
             if !name.is_empty() && trimmed(column) == name {
                 return Some(trimmed(cell));
             }
+            columns = more_columns?;
+            cells = more_cells?;
         }
         None
     }
@@ -105,15 +130,27 @@ impl<'a> Row<'a> {
         Ok(has_cells)
     }
 
+    // Adds a line and its end, unless it holds nothing but empty cells.
+    fn add_filled(&self, out: &mut Bytes, line: &[u8]) -> Result<(), NoMemory> {
+        let before = out.len();
+        let has_cells = self.add_line(out, line)?;
+        if !has_cells || out.len() > before {
+            out.push(b'\n')?;
+        }
+        Ok(())
+    }
+
     /// The text with the cells in their places; a line that holds nothing but empty cells goes away.
     pub fn filled(&self, alloc: Global, text: &[u8]) -> Result<Bytes, NoMemory> {
         let mut out = Bytes::new(alloc);
-        for line in text.split(|b| *b == b'\n') {
-            let before = out.len();
-            let has_cells = self.add_line(&mut out, line)?;
-            if !has_cells || out.len() > before {
-                out.push(b'\n')?;
-            }
+        let mut left = text;
+        for _ in 0..u64::MAX {
+            let (line, after) = first_part(left, b'\n');
+            self.add_filled(&mut out, line)?;
+            let Some(after) = after else {
+                break;
+            };
+            left = after;
         }
         Ok(out)
     }

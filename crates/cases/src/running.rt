@@ -1,6 +1,7 @@
 //! Runs of a plan over the objects in memory.
 use case_files::{Call, Object, Plan, text_of};
 use pf_base::{Files, List, MemFiles, MemSink, MemSource, NoMemory, Pair, Source};
+use pf_pcre::Patterns;
 use pf_top::run;
 use std::alloc::Global;
 
@@ -113,6 +114,7 @@ pub fn run_words(
     let mut record = sink_of(alloc, failing, Object::Record)?;
     let mut log = sink_of(alloc, failing, Object::Log)?;
     let mut files = files_of(alloc, plan, failing)?;
+    let mut patterns = Patterns::new();
     let status = run(
         alloc,
         words,
@@ -121,6 +123,7 @@ pub fn run_words(
         &mut record,
         &mut log,
         &mut files,
+        &mut patterns,
     );
     let unread = count_unread(&mut input);
     Ok(Left {

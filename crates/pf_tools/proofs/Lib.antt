@@ -1,3 +1,4 @@
+pub mod BuiltLaws
 pub mod DefaultLaws
 pub mod KeyLaws
 pub mod LineLaws

@@ -1,7 +1,7 @@
 -- A run of postmap by its course.
 use Rattle.std.proofs.Common.{◌≡◌, ℕ, Bool, true, false, List, [], ◌∷◌, Option, None, Some, Result, Ok, Err, inl, inr, refl, sym, ap, subst, ◌∙◌}
 use Rattle.std.specs.Option.{option_map}
-use Rattle.std.specs.Prelude.{⊤, ◌⊎◌, slice_get}
+use Rattle.std.specs.Prelude.{⊤, ◌⊎◌, ◌≢◌, ◌||◌, is_some, slice_get}
 use Rattle.pf_base.proofs.KnownLemmas.{stops_first, wrote_none}
 use Rattle.pf_base.proofs.StatusLemmas.{counts_same, kept_causes, none_failed, none_stopped, said_causes, said_record, spoken, starved_causes, stops_causes, stops_record}
 use Rattle.pf_base.specs.Outside.Counts.{counted}
@@ -16,23 +16,26 @@ use Rattle.pf_base.specs.declared.outside.status.TheConstants.{AT_BUDGET, DONE, 
 use Rattle.pf_base.specs.declared.outside.texts.SinkFault.{SinkFault}
 use Rattle.pf_base.specs.declared.outside.texts.SinkFault.TheVariants as sink
 use Rattle.pf_base.specs.declared.outside.texts.Texts.{Texts}
+use Rattle.pf_asks.specs.Clauses.Causes.{counted_if}
 use Rattle.pf_asks.specs.Looking.{Meaning}
 use Rattle.pf_maincf.specs.File.{Kept}
-use Rattle.pf_maps.specs.Clauses.Opened.{Opens}
+use Rattle.pf_maps.proofs.TurnLaws.{small_counts}
+use Rattle.pf_maps.specs.Clauses.Opened.{Opens, OpensWith, is_of_size, names_event, names_size}
 use Rattle.pf_maps.specs.Clauses.Seen.{OpenTables, listed, meaning_in, opened}
-use Rattle.pf_maps.specs.Opening.{tables_opened}
+use Rattle.pf_maps.specs.Opening.{Unopened, tables_opened}
+use Rattle.pf_maps.specs.Opening.{Unopened as unopened}
 use Rattle.pf_maps.specs.declared.node.Node.{Node}
 use Rattle.pf_maps.specs.declared.opening.OpenFault.{OpenFault}
 use Rattle.pf_maps.specs.declared.opening.OpenFault.TheVariants as open_fault
 use Rattle.pf_table.specs.declared.pairs.Repeats.{Repeats}
 use Rattle.pf_tools.specs.Clauses.Opened.{Ends, IsPut, SaysUnopened, value_in}
 use Rattle.pf_tools.specs.Map.Built.{built_in, cdb_name}
-use Rattle.pf_tools.specs.Map.Course.{Course, IsTask, Leaves, Took, course_status, ended_status, keys_status, value_status}
+use Rattle.pf_tools.specs.Map.Course.{Counts, Course, IsStopped, IsTask, Leaves, Took, course_status, ended_status, keys_status, names_happening, value_status}
 use Rattle.pf_tools.specs.Map.Course.{Course as course}
 use Rattle.pf_tools.specs.Map.Keys.{Answers, answered, keys_of, last_key, whole_keys}
 use Rattle.pf_tools.specs.Map.Lines.{key_lines, pair_lines, value_at, value_line}
 use Rattle.pf_tools.specs.Map.Run.{PostmapRun, statuses, statuses_by}
-use Rattle.pf_tools.specs.Map.Said.{Task, is_of, specs_of, table_in, task_by, task_in}
+use Rattle.pf_tools.specs.Map.Said.{Happening, Task, is_of, is_unread, read_at_first, specs_of, table_in, task_by, task_in}
 use Rattle.pf_tools.specs.Map.Said.{Task as task}
 use Rattle.pf_tools.specs.declared.map.build.Built.{Built}
 use Rattle.pf_tools.specs.declared.map.keys.Ended.{Ended}
@@ -42,6 +45,19 @@ use Rattle.pf_tools.specs.declared.map.keys.KeysFault.TheVariants as fault
 use Rattle.pf_words.specs.declared.postmap.MapJob.{MapJob}
 use Rattle.pf_words.specs.declared.postmap.MapJob.TheVariants as job
 use Rattle.pf_words.specs.declared.postmap.MapWords.{MapWords}
+
+-- nothing happened
+none_of : {A : Type 0} (o : Option A) → is_some o ≡ false → o ≡ None
+none_of None is = refl
+none_of (Some x) is = cc
+
+or_false : (b : Bool) → (b || false) ≡ b
+or_false true = refl
+or_false false = refl
+
+none_counted : (b : Bool) (old new : ℕ) → new ≡ counted_if b old → new ≢ counted_if true old → b ≡ false
+none_counted true old new counts none = absurd (none counts)
+none_counted false old new counts none = refl
 
 -- the status of keys that were answered is one of three
 by_ended : (P : ℕ → Type 0) → P DONE → P WARNED → P AT_BUDGET → (how : Ended) → P (ended_status how)
@@ -116,12 +132,13 @@ keys_known m budget before now (Err (fault.Sink why)) (inl t) = stops_known why 
 keys_known m budget before now (Err (fault.Sink why)) (inr t) = stops_known why _ now.sinks (out_text _) refl t.stops
 
 -- memory may be wanting whatever there is to do
-memory_is_free : (answer : Result Task Refused) → is_among (statuses_by answer) NO_MEMORY ≡ true
+memory_is_free : (answer : Result Task Unopened) → is_among (statuses_by answer) NO_MEMORY ≡ true
 memory_is_free (Ok (task.builds built)) = refl
 memory_is_free (Ok (task.answers value)) = by_value (λ s. is_among (s ∷ NO_MEMORY ∷ []) NO_MEMORY ≡ true) refl refl value
 memory_is_free (Ok (task.serves meaning)) = refl
 memory_is_free (Ok (task.lists pairs)) = refl
-memory_is_free (Err refusal) = refl
+memory_is_free (Err (unopened.refuses refusal)) = refl
+memory_is_free (Err (unopened.fails file)) = refl
 
 module _ (words : MapWords) (before now : Objects) where
   course_record : (c : Course) → Leaves words before now c → now.streams.sinks.mail ≡ before.streams.sinks.mail
@@ -131,7 +148,7 @@ module _ (words : MapWords) (before now : Objects) where
   course_record (course.serves meaning result) left = keys_record meaning words.budget before.streams now.streams result left.2
   course_record (course.lists pairs said) left = said_record before.streams.sinks now.streams.sinks (out_text _) said refl left.2.says
   course_record (course.refuses refusal said) left = said_record before.streams.sinks now.streams.sinks (log_text _) said refl left.2.says
-  course_record (course.unread file said) left = said_record before.streams.sinks now.streams.sinks (log_text _) said refl left.1.says
+  course_record (course.unread file said) left = said_record before.streams.sinks now.streams.sinks (log_text _) said refl left.2.says
   course_record course.starves left = ap (λ s. s.sinks.mail) left.1
   course_record (course.starves_building built) left = ap (λ s. s.sinks.mail) left.2
 
@@ -143,7 +160,7 @@ module _ (words : MapWords) (before now : Objects) where
   course_known (course.serves meaning result) left = keys_known meaning words.budget before.streams now.streams result left.2
   course_known (course.lists pairs said) left = said_known DONE said _ _ (out_text _) refl left.2.says refl
   course_known (course.refuses refusal said) left = said_known REFUSED said _ _ (log_text _) refl left.2.says refl
-  course_known (course.unread file said) left = said_known FILES_FAILED said _ _ (log_text _) refl left.1.says refl
+  course_known (course.unread file said) left = said_known FILES_FAILED said _ _ (log_text _) refl left.2.says refl
   course_known course.starves left = refl
   course_known (course.starves_building built) left = refl
 
@@ -171,8 +188,8 @@ module _ (words : MapWords) (before now : Objects) where
       (record { once = inl left.1.1; failed = λ is. cc; kept = λ is. left.1.1 })
   course_causes (course.refuses refusal said) left = said_causes before now REFUSED said (log_text _) left.2.input left.2.says refl
       (record { once = inl left.1.1; failed = λ is. cc; kept = λ is. left.1.1 })
-  course_causes (course.unread file said) left = said_causes before now FILES_FAILED said (log_text _) left.1.input left.1.says refl
-      (record { once = inr left.0.1; failed = λ is. left.0.1; kept = λ is. cc })
+  course_causes (course.unread file said) left = said_causes before now FILES_FAILED said (log_text _) left.2.input left.2.says refl
+      (record { once = inr left.1.1; failed = λ is. left.1.1; kept = λ is. cc })
   course_causes course.starves left =
       starved_causes (counts_of before) (counts_of now) (ap (λ s. s.input.faults) left.1) (ap (λ s. s.sinks.out.faults) left.1)
       (ap (λ s. s.sinks.mail.faults) left.1) (ap (λ s. s.sinks.log.faults) left.1) (inl left.0.1)
@@ -182,37 +199,44 @@ module _ (words : MapWords) (before now : Objects) where
 
   -- where no call failed, the status is that of what there is to do
   module _ (status : ℕ) (causes : HasCauses (counts_of before) (counts_of now) status) (files : List Pair) (known : before.files.content ≡ Some files)
-      (none : NoneRose (counts_of before) (counts_of now)) where
+      (none : NoneRose (counts_of before) (counts_of now)) (old new : ℕ) (small : new ≢ counted_if true old) where
     abbrev Completes : Type 0
-    Completes = is_among (statuses_by (task_in words files)) status ≡ true
+    Completes = is_among (statuses_by (task_in None words files)) status ≡ true
 
     stopped : (why : SinkFault) → status ≡ sink_status why → Completes
-    stopped why is = rw (none_stopped why is causes none) (memory_is_free (task_in words files))
+    stopped why is = rw (none_stopped why is causes none) (memory_is_free (task_in None words files))
 
-    completes : (c : Course) → Leaves words before now c → status ≡ course_status c → Completes
-    completes (course.builds built (Ok x)) left is = rw (is, left.0.known files known) refl
-    completes (course.builds built (Err why)) left is = stopped why is
-    completes (course.unreplaced built (Ok x)) left is = absurd (none.files (causes.files is))
-    completes (course.unreplaced built (Err why)) left is = stopped why is
-    completes (course.answers value (Ok x)) left is =
+    -- what refuses the table is in the files
+    told : (refusal : Refused) → IsStopped words before (unopened.refuses refusal) → new ≡ counted_if (is_of_size refusal) old
+        → task_in None words files ≡ Err (unopened.refuses refusal)
+    told refusal stop counts =
+        subst (λ h. task_in h words files ≡ Err (unopened.refuses refusal)) (none_of stop.happening (stop.named ∙ none_counted (is_of_size refusal) old new counts small))
+        (stop.known files known)
+
+    completes : (c : Course) → Leaves words before now c → Counts old new c → status ≡ course_status c → Completes
+    completes (course.builds built (Ok x)) left counts is = rw (is, left.0.known files known) refl
+    completes (course.builds built (Err why)) left counts is = stopped why is
+    completes (course.unreplaced built (Ok x)) left counts is = absurd (none.files (causes.files is))
+    completes (course.unreplaced built (Err why)) left counts is = stopped why is
+    completes (course.answers value (Ok x)) left counts is =
         rw (is, left.0.known files known) (by_value (λ s. is_among (s ∷ NO_MEMORY ∷ []) s ≡ true) refl refl value)
-    completes (course.answers value (Err why)) left is = stopped why is
-    completes (course.serves meaning (Ok how)) left is =
+    completes (course.answers value (Err why)) left counts is = stopped why is
+    completes (course.serves meaning (Ok how)) left counts is =
         rw (is, left.0.known files known) (by_ended (λ s. is_among (DONE ∷ WARNED ∷ AT_BUDGET ∷ NO_MEMORY ∷ []) s ≡ true) refl refl refl how)
-    completes (course.serves meaning (Err fault.Input)) left is = absurd (none_failed is causes none)
-    completes (course.serves meaning (Err (fault.Sink why))) left is = stopped why is
-    completes (course.lists pairs (Ok x)) left is = rw (is, left.0.known files known) refl
-    completes (course.lists pairs (Err why)) left is = stopped why is
-    completes (course.refuses refusal (Ok x)) left is = rw (is, left.0 files known) refl
-    completes (course.refuses refusal (Err why)) left is = stopped why is
-    completes (course.unread file (Ok x)) left is = absurd (none.files (causes.files is))
-    completes (course.unread file (Err why)) left is = stopped why is
-    completes course.starves left is = rw is (memory_is_free (task_in words files))
-    completes (course.starves_building built) left is = rw is (memory_is_free (task_in words files))
+    completes (course.serves meaning (Err fault.Input)) left counts is = absurd (none_failed is causes none)
+    completes (course.serves meaning (Err (fault.Sink why))) left counts is = stopped why is
+    completes (course.lists pairs (Ok x)) left counts is = rw (is, left.0.known files known) refl
+    completes (course.lists pairs (Err why)) left counts is = stopped why is
+    completes (course.refuses refusal (Ok x)) left counts is = rw (is, told refusal left.0 counts) refl
+    completes (course.refuses refusal (Err why)) left counts is = stopped why is
+    completes (course.unread file (Ok x)) left counts is = absurd (none.files (causes.files is))
+    completes (course.unread file (Err why)) left counts is = stopped why is
+    completes course.starves left counts is = rw is (memory_is_free (task_in None words files))
+    completes (course.starves_building built) left counts is = rw is (memory_is_free (task_in None words files))
 
 -- a run that took a course
-pub took_postmap : {words : MapWords} {before now : Objects} {status : ℕ} → Took words before now status → PostmapRun words before now status
-took_postmap {words} {before} {now} {status} took =
+pub took_postmap : {words : MapWords} {before now : Objects} {old new : ℕ} {status : ℕ} → Took words before now old new status → PostmapRun words before now old new status
+took_postmap {words} {before} {now} {old} {new} {status} took =
     let c = took.course in
     let causes = subst (HasCauses (counts_of before) (counts_of now)) (sym took.status_is) (course_causes words before now c took.leaves) in
     record {
@@ -220,112 +244,139 @@ took_postmap {words} {before} {now} {status} took =
       mail = course_record words before now c took.leaves;
       known = subst (λ s. is_among statuses s ≡ true) (sym took.status_is) (course_known words before now c took.leaves);
       causes = causes;
-      complete = λ files known none. completes words before now status causes files known none c took.leaves took.status_is;
+      complete = λ files known none small. completes words before now status causes files known none old new small c took.leaves took.counts took.status_is;
     }
 
 -- what there is to do with a table that was opened
-module _ (words : MapWords) (before now : Objects) where
+module _ (words : MapWords) (before now : Objects) (old new : ℕ) where
   abbrev Opening : Result OpenTables OpenFault → Type 0
-  Opening result = Opens before.files now.files (λ all. opened (tables_opened all words.folded (specs_of words.table))) result
+  Opening result = OpensWith before.files now.files old new (λ event all. opened (tables_opened event all words.folded (specs_of words.table))) result
 
-  with_table : (f : Option (List Node) → Task) (tables : OpenTables) (answer : Result (List (List Node)) Refused) → opened answer ≡ Ok tables
+  with_table : (f : Option (List Node) → Task) (tables : OpenTables) (answer : Result (List (List Node)) Unopened) → opened answer ≡ Ok tables
       → ((answer >>= (λ tables. Ok (slice_get tables 0))) >>= (λ table. Ok (f table))) ≡ Ok (f (slice_get tables.tables 0))
-  with_table f tables (Ok all) is = ap (λ (t : Result OpenTables Refused). t >>= (λ t. Ok (f (slice_get t.tables 0)))) is
-  with_table f tables (Err refusal) is = cc
+  with_table f tables (Ok all) is = ap (λ (t : Result OpenTables Unopened). t >>= (λ t. Ok (f (slice_get t.tables 0)))) is
+  with_table f tables (Err why) is = cc
 
-  without_table : (f : Option (List Node) → Task) (refusal : Refused) (answer : Result (List (List Node)) Refused) → opened answer ≡ Err refusal
-      → ((answer >>= (λ tables. Ok (slice_get tables 0))) >>= (λ table. Ok (f table))) ≡ Err refusal
-  without_table f refusal (Ok all) is = cc
-  without_table f refusal (Err why) is = ap Err (cc is)
+  without_table : (f : Option (List Node) → Task) (why : Unopened) (answer : Result (List (List Node)) Unopened) → opened answer ≡ Err why
+      → ((answer >>= (λ tables. Ok (slice_get tables 0))) >>= (λ table. Ok (f table))) ≡ Err why
+  without_table f why (Ok all) is = cc
+  without_table f why (Err other) is = ap Err (cc is)
 
   -- a job that is no build
   abbrev pub Asks : MapJob → (Option (List Node) → Task) → Type 0
-  Asks j f = (files : List Pair) → task_by j words files ≡ (table_in words files >>= (λ table. Ok (f table)))
+  Asks j f = (happening : Happening) (files : List Pair) → task_by j happening words files ≡ (table_in happening words files >>= (λ table. Ok (f table)))
 
   module _ (f : Option (List Node) → Task) (j : MapJob) (is : words.job ≡ j) (asks : Asks j f) where
     task_is : (tables : OpenTables) → Opening (Ok tables) → is_of j (f (slice_get tables.tables 0)) ≡ true → IsTask words before (f (slice_get tables.tables 0))
     task_is tables opens own = record {
-      known = λ files known. ap (λ j. task_by j words files) is ∙ asks files ∙ with_table f tables (tables_opened files words.folded (specs_of words.table)) (opens.known files known);
+      known = λ files known.
+          ap (λ j. task_by j None words files) is ∙ asks None files ∙ with_table f tables (tables_opened None files words.folded (specs_of words.table))
+          (subst (λ e. opened (tables_opened e files words.folded (specs_of words.table)) ≡ Ok tables) (none_of opens.event opens.names) (opens.known files known));
       asked = ap (λ j. is_of j (f (slice_get tables.tables 0))) is ∙ own;
     }
 
+    stops : (fault : OpenFault) (why : Unopened) (opens : Opening (Err fault))
+        → ((files : List Pair) → before.files.content ≡ Some files → opened (tables_opened opens.event files words.folded (specs_of words.table)) ≡ Err why)
+        → names_event {A = OpenTables} (Err fault) ≡ names_happening why → IsStopped words before why
+    stops fault why opens said named = record {
+      happening = opens.event;
+      known = λ files known.
+          ap (λ j. task_by j opens.event words files) is ∙ asks opens.event files
+          ∙ without_table f why (tables_opened opens.event files words.folded (specs_of words.table)) (said files known);
+      named = opens.names ∙ named;
+    }
+
     pub took_unopened : (why : OpenFault) {status : ℕ} → Opening (Err why) → SaysUnopened before.streams.sinks now.streams.sinks why status
-        → now.streams.input ≡ before.streams.input → Took words before now status
+        → now.streams.input ≡ before.streams.input → Took words before now old new status
     took_unopened (open_fault.Refused refusal) opens ends same = record {
       course = course.refuses refusal ends.said;
       status_is = ends.is;
       leaves = (
-        λ files known. ap (λ j. task_by j words files) is ∙ asks files ∙ without_table f refusal (tables_opened files words.folded (specs_of words.table)) (opens.known files known),
+        stops (open_fault.Refused refusal) (unopened.refuses refusal) opens opens.known (or_false (is_of_size refusal)),
         opens.leaves,
         record { says = ends.says; input = same },
       );
+      counts = opens.counts;
     }
     took_unopened (open_fault.Failed file) opens ends same = record {
       course = course.unread file ends.said;
       status_is = ends.is;
-      leaves = (opens.leaves, record { says = ends.says; input = same });
+      leaves = (stops (open_fault.Failed file) (unopened.fails file) opens opens.known refl, opens.leaves, record { says = ends.says; input = same });
+      counts = opens.counts;
     }
     took_unopened open_fault.NoMemory opens ends same = record {
       course = course.starves;
       status_is = ends.1;
       leaves = (opens.leaves, rw (same, ends.0) refl);
+      counts = opens.counts;
     }
 
   pub took_query : (key : List ℕ) {status : ℕ} (tables : OpenTables) → Opening (Ok tables) → now.streams.input ≡ before.streams.input → words.job ≡ job.Query key
-      → Ends before.streams.sinks now.streams.sinks (out_text (value_line (value_in tables key))) (value_status (value_in tables key)) status → Took words before now status
+      → Ends before.streams.sinks now.streams.sinks (out_text (value_line (value_in tables key))) (value_status (value_in tables key)) status → Took words before now old new status
   took_query key tables opens same is ends = record {
     course = course.answers (value_in tables key) ends.said;
     status_is = ends.is;
-    leaves = (task_is (λ table. task.answers (value_at (meaning_in table) key)) (job.Query key) is (λ files. refl) tables opens refl, opens.leaves, record { says = ends.says; input = same });
+    leaves = (task_is (λ table. task.answers (value_at (meaning_in table) key)) (job.Query key) is (λ happening files. refl) tables opens refl, opens.leaves, record { says = ends.says; input = same });
+    counts = opens.counts;
   }
 
   pub took_elements : {status : ℕ} (tables : OpenTables) → Opening (Ok tables) → now.streams.input ≡ before.streams.input → words.job ≡ job.Elements
-      → Ends before.streams.sinks now.streams.sinks (out_text (pair_lines (listed (slice_get tables.tables 0)))) DONE status → Took words before now status
+      → Ends before.streams.sinks now.streams.sinks (out_text (pair_lines (listed (slice_get tables.tables 0)))) DONE status → Took words before now old new status
   took_elements tables opens same is ends = record {
     course = course.lists (listed (slice_get tables.tables 0)) ends.said;
     status_is = ends.is;
-    leaves = (task_is (λ table. task.lists (listed table)) job.Elements is (λ files. refl) tables opens refl, opens.leaves, record { says = ends.says; input = same });
+    leaves = (task_is (λ table. task.lists (listed table)) job.Elements is (λ happening files. refl) tables opens refl, opens.leaves, record { says = ends.says; input = same });
+    counts = opens.counts;
   }
 
   pub took_keys : (tables : OpenTables) → Opening (Ok tables) → (result : Result Ended KeysFault) {status : ℕ} → words.job ≡ job.QueryInput → status ≡ keys_status result
-      → Answers (meaning_in (slice_get tables.tables 0)) words.budget before.streams now.streams result → Took words before now status
+      → Answers (meaning_in (slice_get tables.tables 0)) words.budget before.streams now.streams result → Took words before now old new status
   took_keys tables opens result is status_is answers = record {
     course = course.serves (meaning_in (slice_get tables.tables 0)) result;
     status_is = status_is;
-    leaves = (task_is (λ table. task.serves (meaning_in table)) job.QueryInput is (λ files. refl) tables opens refl, opens.leaves, answers);
+    leaves = (task_is (λ table. task.serves (meaning_in table)) job.QueryInput is (λ happening files. refl) tables opens refl, opens.leaves, answers);
+    counts = opens.counts;
   }
 
 -- what there is to do where a cdb is built
 module _ (words : MapWords) (repeats : Repeats) (warned : Bool) (is : words.job ≡ job.Build repeats warned) where
   abbrev Building : Objects → Tree → Result Built OpenFault → Type 0
-  Building before mid result = Opens before.files mid (λ all. built_in words.table words.folded repeats warned all) result
+  Building before mid result = Opens before.files mid (λ failed all. built_in failed words.table words.folded repeats warned all) result
 
   build_is : (before : Objects) (mid : Tree) (built : Built) → Building before mid (Ok built) → IsTask words before (task.builds built)
   build_is before mid built builds = record {
-    known = λ files known. ap (λ j. task_by j words files) is ∙ ap (λ (b : Result Built Refused). b >>= (λ b. Ok (task.builds b))) (builds.known files known);
+    known = λ files known. ap (λ j. task_by j None words files) is ∙ ap (λ (b : Result Built Unopened). b >>= (λ b. Ok (task.builds b))) (builds.known files known);
     asked = ap (λ j. is_of j (task.builds built)) is;
   }
 
-  pub took_unbuilt : (before now : Objects) (why : OpenFault) {status : ℕ} → Building before now.files (Err why)
-      → SaysUnopened before.streams.sinks now.streams.sinks why status → now.streams.input ≡ before.streams.input → Took words before now status
-  took_unbuilt before now (open_fault.Refused refusal) builds ends same = record {
+  no_build : (before : Objects) (happening : Happening) (why : Unopened)
+      → ((files : List Pair) → before.files.content ≡ Some files → built_in (is_unread happening) words.table words.folded repeats warned files ≡ Err why)
+      → is_some happening ≡ names_happening why → IsStopped words before why
+  no_build before happening why said named = record {
+    happening = happening;
+    known = λ files known. ap (λ j. task_by j happening words files) is ∙ ap (λ (b : Result Built Unopened). b >>= (λ b. Ok (task.builds b))) (said files known);
+    named = named;
+  }
+
+  pub took_unbuilt : (count : ℕ) (before now : Objects) (why : OpenFault) {status : ℕ} → Building before now.files (Err why) → names_size why ≡ false
+      → SaysUnopened before.streams.sinks now.streams.sinks why status → now.streams.input ≡ before.streams.input → Took words before now count count status
+  took_unbuilt count before now (open_fault.Refused refusal) builds small ends same = record {
     course = course.refuses refusal ends.said;
     status_is = ends.is;
-    leaves = (
-      λ files known. ap (λ j. task_by j words files) is ∙ ap (λ (b : Result Built Refused). b >>= (λ b. Ok (task.builds b))) (builds.known files known),
-      builds.leaves,
-      record { says = ends.says; input = same },
-    );
+    leaves = (no_build before None (unopened.refuses refusal) builds.known (sym small), builds.leaves, record { says = ends.says; input = same });
+    counts = small_counts count (is_of_size refusal) small;
   }
-  took_unbuilt before now (open_fault.Failed file) builds ends same = record {
+  took_unbuilt count before now (open_fault.Failed file) builds small ends same = record {
     course = course.unread file ends.said;
     status_is = ends.is;
-    leaves = (builds.leaves, record { says = ends.says; input = same });
+    leaves = (no_build before read_at_first (unopened.fails file) builds.known refl, builds.leaves, record { says = ends.says; input = same });
+    counts = refl;
   }
-  took_unbuilt before now open_fault.NoMemory builds ends same = record {
+  took_unbuilt count before now open_fault.NoMemory builds small ends same = record {
     course = course.starves;
     status_is = ends.1;
     leaves = (builds.leaves, rw (same, ends.0) refl);
+    counts = inl refl;
   }
 
   -- the cdb was put in its place, or not, after the text was read
@@ -351,9 +402,9 @@ module _ (words : MapWords) (repeats : Repeats) (warned : Bool) (is : words.job 
   starved_after built before mid now read (inl is) = inl (after_kept before mid now read is)
   starved_after built before mid now read (inr is) = inr (after_kept (put built before) (put built mid) now (put_kept built before mid read) is)
 
-  pub took_put : (before now : Objects) (mid : Tree) (built : Built) {status : ℕ} → Building before mid (Ok built) → now.streams.input ≡ before.streams.input
-      → IsPut (cdb_name words.table) built mid now.files before.streams.sinks now.streams.sinks status → Took words before now status
-  took_put before now mid built builds same (inl done) = record {
+  pub took_put : (count : ℕ) (before now : Objects) (mid : Tree) (built : Built) {status : ℕ} → Building before mid (Ok built) → now.streams.input ≡ before.streams.input
+      → IsPut (cdb_name words.table) built mid now.files before.streams.sinks now.streams.sinks status → Took words before now count count status
+  took_put count before now mid built builds same (inl done) = record {
     course = course.builds built done.1.said;
     status_is = done.1.is;
     leaves = (
@@ -361,18 +412,21 @@ module _ (words : MapWords) (repeats : Repeats) (warned : Bool) (is : words.job 
       after_kept (put built before.files) (put built mid) now.files (put_kept built before.files mid builds.leaves) done.0,
       record { says = done.1.says; input = same },
     );
+    counts = refl;
   }
-  took_put before now mid built builds same (inr (inl failed)) = record {
+  took_put count before now mid built builds same (inr (inl failed)) = record {
     course = course.unreplaced built failed.1.said;
     status_is = failed.1.is;
     leaves = (build_is before mid built builds, failed_after built before.files mid now.files builds.leaves failed.0, record { says = failed.1.says; input = same });
+    counts = refl;
   }
-  took_put before now mid built builds same (inr (inr short)) = record {
+  took_put count before now mid built builds same (inr (inr short)) = record {
     course = course.starves_building built;
     status_is = short.2;
     leaves = (build_is before mid built builds, starved_after built before.files mid now.files builds.leaves short.0, rw (same, short.1) refl);
+    counts = refl;
   }
 
 -- it was out of memory before there was anything to do
-pub took_starved : (words : MapWords) (o : Objects) → Took words o o NO_MEMORY
-took_starved words o = record { course = course.starves; status_is = refl; leaves = ((refl, refl), refl) }
+pub took_starved : (words : MapWords) (o : Objects) (count : ℕ) → Took words o o count count NO_MEMORY
+took_starved words o count = record { course = course.starves; status_is = refl; leaves = ((refl, refl), refl); counts = inl refl }

@@ -21,11 +21,8 @@ fn read_said(alloc: Global, file: &[u8], words: &ConfWords, text: &[u8]) -> Resu
     ensures edited { IfOk result (λ said. spec.is_edited said ≡ is_edit words.now.mode) }
     ensures files { result ≢ Err FileFault.Failed }
 {
-    match text_said(alloc, file, words, text) {
-        Ok(said) => Ok(said),
-        Err(ConfFault::Refused(refusal)) => Err(FileFault::Refused(refusal)),
-        Err(ConfFault::NoMemory) => Err(FileFault::NoMemory),
-    }
+    let said = text_said(alloc, file, words, text)?;
+    Ok(said)
 }
 
 /// What is said of the main.cf of this name; `Failed` comes only where the count of faults of `files` rose by one.

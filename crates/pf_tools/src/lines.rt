@@ -47,12 +47,8 @@ fn line_of(alloc: Global, words: &ConfWords, known: &Known, name: &[u8]) -> Resu
         return Ok(Bytes::new(alloc));
     }
     let value = value_shown(alloc, words, known, name)?;
-    let Ok(mut line) = line_text(alloc, words.shape, name, value.as_slice()) else {
-        return Err(ConfFault::NoMemory);
-    };
-    let Ok(()) = line.push(b'\n') else {
-        return Err(ConfFault::NoMemory);
-    };
+    let mut line = line_text(alloc, words.shape, name, value.as_slice())?;
+    line.push(b'\n')?;
     Ok(line)
 }
 
@@ -68,9 +64,7 @@ pub(crate) fn lines_of(
     let mut lines = Bytes::new(alloc);
     for name in names {
         let line = line_of(alloc, words, known, name.as_slice())?;
-        let Ok(()) = lines.extend(line.as_slice()) else {
-            return Err(ConfFault::NoMemory);
-        };
+        lines.extend(line.as_slice())?;
     }
     Ok(lines)
 }

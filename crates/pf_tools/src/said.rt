@@ -33,10 +33,8 @@ fn printed_of(
     ensures edited { IfOk result (λ said. spec.is_edited said ≡ false) }
 {
     let lines = lines_of(alloc, words, known, names)?;
-    match warnings_of(alloc, known, names) {
-        Ok(warnings) => Ok(Said::Printed { lines, warnings }),
-        Err(NoMemory) => Err(ConfFault::NoMemory),
-    }
+    let warnings = warnings_of(alloc, known, names)?;
+    Ok(Said::Printed { lines, warnings })
 }
 
 // The lines and the warnings of the names that are asked for.
@@ -46,9 +44,7 @@ fn asked(alloc: Global, words: &ConfWords, known: &Known) -> Result<Said, ConfFa
 {
     match words.rest.as_slice() {
         [] => {
-            let Ok(names) = shown_names(alloc, words.mode, known) else {
-                return Err(ConfFault::NoMemory);
-            };
+            let names = shown_names(alloc, words.mode, known)?;
             printed_of(alloc, words, known, names.as_slice())
         }
         names => printed_of(alloc, words, known, names),
@@ -90,9 +86,7 @@ fn printed(alloc: Global, file: &[u8], words: &ConfWords, text: &[u8]) -> Result
     ensures edited { IfOk result (λ said. spec.is_edited said ≡ false) }
 {
     let main = MainCf::read(alloc, file, text)?;
-    let Ok(over) = over_of(alloc, &words.over) else {
-        return Err(ConfFault::NoMemory);
-    };
+    let over = over_of(alloc, &words.over)?;
     let settings = Settings::new(alloc, &main, &over)?;
     asked(alloc, words, settings.known())
 }
@@ -104,9 +98,7 @@ fn edited_by(alloc: Global, file: &[u8], words: &ConfWords, text: &[u8]) -> Resu
     ensures is { Unless result ConfFault.NoMemory (λ r. r ≡ as_fault (spec.edited_by file.now words.now text.now)) }
     ensures edited { IfOk result (λ said. spec.is_edited said ≡ true) }
 {
-    let Ok(edits) = edits_of(alloc, words.rest.as_slice()) else {
-        return Err(ConfFault::NoMemory);
-    };
+    let edits = edits_of(alloc, words.rest.as_slice())?;
     let new = MainCf::edit(alloc, file, text, &edits)?;
     Ok(Said::Edited(new))
 }

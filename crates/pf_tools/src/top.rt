@@ -8,7 +8,7 @@ ghost use Rattle.pf_words.specs.Postconf.{sets_parameters};
 use crate::report::gather;
 use crate::say::say;
 use pf_base::status::NO_MEMORY;
-use pf_base::{Files, Sink, status_behind};
+use pf_base::{Files, Sink, status_after};
 use pf_words::ConfWords;
 use std::alloc::Global;
 
@@ -30,5 +30,5 @@ pub fn postconf<F: Files, O: Sink, J: Sink>(
     let Ok(report) = gather(alloc, words, files) else {
         return NO_MEMORY;
     };
-    status_behind(report.status, say(&report.texts, out, log))
+    status_after(report.status, say(&report.texts, out, log))
 }

@@ -132,9 +132,8 @@ pub(crate) fn value_shown(
     if words.shape == Shape::Names {
         return Ok(Bytes::new(alloc));
     }
-    match named_value(alloc, words, known, name) {
-        Ok(Ok(value)) => Ok(value),
-        Ok(Err(refusal)) => Err(ConfFault::Refused(refusal)),
-        Err(NoMemory) => Err(ConfFault::NoMemory),
+    match named_value(alloc, words, known, name)? {
+        Ok(value) => Ok(value),
+        Err(refusal) => Err(ConfFault::Refused(refusal)),
     }
 }

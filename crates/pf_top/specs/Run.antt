@@ -24,9 +24,9 @@ pub record Unformed (before now : Objects) (status : ℕ) : Type 0 where
   pub known : is_among (USAGE ∷ LOG_FAILED ∷ NO_MEMORY ∷ []) status ≡ true
   pub causes : HasCauses (counts_of before) (counts_of now) status
 
--- what a run of words leaves
-abbrev pub Leaves : Option Words → Objects → Objects → ℕ → Type 0
-Leaves None before now status = Unformed before now status
-Leaves (Some (Smtpd words)) before now status = SmtpdRun words before now status
-Leaves (Some (Postconf words)) before now status = PostconfRun words before now status
-Leaves (Some (Postmap words)) before now status = PostmapRun words before now status
+-- what a run of words leaves. The counts old and new are those of patterns that were refused for their size, which postmap alone reads.
+abbrev pub Leaves : Option Words → Objects → Objects → ℕ → ℕ → ℕ → Type 0
+Leaves None before now old new status = Unformed before now status × (new ≡ old)
+Leaves (Some (Smtpd words)) before now old new status = SmtpdRun words before now status × (new ≡ old)
+Leaves (Some (Postconf words)) before now old new status = PostconfRun words before now status × (new ≡ old)
+Leaves (Some (Postmap words)) before now old new status = PostmapRun words before now old new status

@@ -106,16 +106,11 @@ fn opening_of(alloc: Global, known: &Known) -> Result<Opening, NoMemory>
 fn settings_opened(alloc: Global, known: &Known) -> Result<Opening, ConfFault>
     ensures { Unless result ConfFault.NoMemory (λ r. r ≡ as_fault (refusals.settings_opened known.now)) }
 {
-    let Ok(refusal) = settings_refusal(alloc, known) else {
-        return Err(ConfFault::NoMemory);
-    };
-    if let Some(refusal) = refusal {
+    if let Some(refusal) = settings_refusal(alloc, known)? {
         return Err(ConfFault::Refused(refusal));
     }
-    match opening_of(alloc, known) {
-        Ok(opening) => Ok(opening),
-        Err(NoMemory) => Err(ConfFault::NoMemory),
-    }
+    let opening = opening_of(alloc, known)?;
+    Ok(opening)
 }
 
 /// What a main.cf of this name and text says, or its first refusal.
@@ -123,8 +118,6 @@ pub(crate) fn text_opened(alloc: Global, file: &[u8], text: &[u8]) -> Result<Ope
     ensures { Unless result ConfFault.NoMemory (λ r. r ≡ as_fault (refusals.text_opened file.now text.now)) }
 {
     let conf = MainCf::read(alloc, file, text)?;
-    let Ok(known) = Known::new(alloc, &conf, &List::new(alloc)) else {
-        return Err(ConfFault::NoMemory);
-    };
+    let known = Known::new(alloc, &conf, &List::new(alloc))?;
     settings_opened(alloc, &known)
 }

@@ -15,7 +15,7 @@ ghost use Rattle.pf_top.specs.Smtpd.{SmtpdRun};
 use crate::opening::{Opening, text_opened};
 use crate::session_loop::{Ended, LoopFault, run_session};
 use pf_base::status::{AT_BUDGET, DONE, FILES_FAILED, INPUT_FAILED, NO_MEMORY, REFUSED};
-use pf_base::{ConfFault, Files, Refused, Sink, SinkFault, Source, status_behind, write_log};
+use pf_base::{ConfFault, Files, Refused, Sink, SinkFault, Source, status_after, write_log};
 use pf_maincf::{FileFault, conf_name, conf_text, failed_line};
 use pf_words::SmtpdWords;
 use std::alloc::Global;
@@ -25,11 +25,8 @@ fn read_opened(alloc: Global, file: &[u8], text: &[u8]) -> Result<Opening, FileF
     ensures known { Answers (refusals.text_opened file.now text.now) result }
     ensures files { result ≢ Err FileFault.Failed }
 {
-    match text_opened(alloc, file, text) {
-        Ok(opening) => Ok(opening),
-        Err(ConfFault::Refused(refusal)) => Err(FileFault::Refused(refusal)),
-        Err(ConfFault::NoMemory) => Err(FileFault::NoMemory),
-    }
+    let opening = text_opened(alloc, file, text)?;
+    Ok(opening)
 }
 
 // What main.cf says, or its first refusal, where it could be read.
@@ -48,9 +45,7 @@ fn open_conf<F: Files>(alloc: Global, file: &[u8], files: &mut F) -> Result<Open
 fn say_refused<J: Sink>(alloc: Global, refusal: &Refused, log: &mut J) -> Result<(), SinkFault>
     ensures { (out mail : Output) → Says (sinks out mail (J.known log.old)) (sinks out mail (J.known log.new)) (log_text (refusal_line refusal.now)) result }
 {
-    let Ok(line) = refusal.line(alloc) else {
-        return Err(SinkFault::NoMemory);
-    };
+    let line = refusal.line(alloc)?;
     write_log(log, line.as_slice())
 }
 
@@ -58,9 +53,7 @@ fn say_refused<J: Sink>(alloc: Global, refusal: &Refused, log: &mut J) -> Result
 fn say_unread<J: Sink>(alloc: Global, file: &[u8], log: &mut J) -> Result<(), SinkFault>
     ensures { (out mail : Output) → Says (sinks out mail (J.known log.old)) (sinks out mail (J.known log.new)) (log_text (failed_line file.now (codes "read"))) result }
 {
-    let Ok(line) = failed_line(alloc, file, b"read") else {
-        return Err(SinkFault::NoMemory);
-    };
+    let line = failed_line(alloc, file, b"read")?;
     write_log(log, line.as_slice())
 }
 
@@ -110,11 +103,11 @@ pub(crate) fn run_smtpd<S: Source, O: Sink, M: Sink, J: Sink, F: Files>(
             let (client, budget) = (words.client, words.budget);
             loop_status(run_session(alloc, opening, client, budget, input, out, mail, log))
         }
-        Err(FileFault::Refused(refusal)) => status_behind(
+        Err(FileFault::Refused(refusal)) => status_after(
             REFUSED,
             say_refused(alloc, &refusal, log),
         ),
-        Err(FileFault::Failed) => status_behind(FILES_FAILED, say_unread(alloc, file, log)),
+        Err(FileFault::Failed) => status_after(FILES_FAILED, say_unread(alloc, file, log)),
         Err(FileFault::NoMemory) => NO_MEMORY,
     }
 }

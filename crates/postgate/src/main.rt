@@ -2,6 +2,7 @@
 #![tactic(auto)]
 
 use pf_base::{OuterFault, Sink};
+use pf_pcre::Patterns;
 use pf_real::{FileSink, Reading, RealFiles, Writing, take_up};
 use pf_top::{run, sink_names};
 use std::alloc::Global;
@@ -45,7 +46,17 @@ fn answer_with<J: Sink>(
     let mut input = Reading::new(rt.stdin());
     let mut out = Writing::new(rt.stdout());
     let mut files = RealFiles::new(rt);
-    run(alloc, words, &mut input, &mut out, mail, log, &mut files)
+    let mut patterns = Patterns::new();
+    run(
+        alloc,
+        words,
+        &mut input,
+        &mut out,
+        mail,
+        log,
+        &mut files,
+        &mut patterns,
+    )
 }
 
 // Runs the command of these words; the log is the file that they name, or standard error.

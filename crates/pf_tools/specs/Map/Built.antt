@@ -1,5 +1,5 @@
 -- A cdb that is built of a text (postmap(1)), and the warnings of its repeated keys. The warnings and the refusals are postgate's own.
-use Rattle.std.specs.Prelude.{ℕ, ◌+◌, ◌++◌, ◌==◌, Bool, true, false, List, [], ◌∷◌, Result, Ok, Err, codes, drop, if◌then◌else◌}
+use Rattle.std.specs.Prelude.{ℕ, ◌+◌, ◌==◌, Bool, true, false, List, [], ◌∷◌, Result, Ok, Err, codes, drop, if◌then◌else◌}
 use Rattle.std.specs.Fmt.{decimal}
 use Rattle.std.specs.List.{flat_map, position}
 use Rattle.std.specs.Option.{option_map_or}
@@ -12,7 +12,8 @@ use Rattle.pf_base.specs.declared.refused.Cause.TheVariants.{C15}
 use Rattle.pf_base.specs.declared.refused.Refused.{Refused}
 use Rattle.pf_cdb.specs.Written.{written_file}
 use Rattle.pf_cdb.specs.declared.fault.WriteFault.{WriteFault}
-use Rattle.pf_maps.specs.Opening.{table_text}
+use Rattle.pf_maps.specs.Opening.{Unopened, refusing, table_text}
+use Rattle.pf_maps.specs.Opening as opening
 use Rattle.pf_table.specs.Text.{text_read}
 use Rattle.pf_table.specs.declared.pairs.Repeats.{Repeats}
 use Rattle.pf_table.specs.declared.text.Repeated.{Repeated}
@@ -25,7 +26,7 @@ text_name table = option_map_or (λ n. drop (n + 1) table) (position (λ b. b ==
 
 -- the name of the cdb
 abbrev pub cdb_name : List ℕ → List ℕ
-cdb_name table = text_name table ++ codes ".cdb"
+cdb_name table = opening.cdb_name (text_name table)
 
 -- the warning of a line whose key is in an earlier one
 abbrev pub warning_text : List ℕ → Repeated → List ℕ
@@ -56,8 +57,8 @@ text_built table folds repeats warned text = do
   read ← text_read (text_name table) folds repeats text
   read_built table warned read
 
--- the cdb that is built of the file of this name
-abbrev pub built_in : List ℕ → Bool → Repeats → Bool → List Pair → Result Built Refused
-built_in table folds repeats warned files = do
-  text ← table_text files (record { file = codes "words"; line = 0 }) (text_name table)
-  text_built table folds repeats warned text
+-- the cdb that is built of the file of this name, unless the read fails
+abbrev pub built_in : Bool → List ℕ → Bool → Repeats → Bool → List Pair → Result Built Unopened
+built_in failed table folds repeats warned files = do
+  text ← table_text failed files (record { file = codes "words"; line = 0 }) (text_name table)
+  refusing (text_built table folds repeats warned text)

@@ -1,5 +1,5 @@
 -- The course that a run of postmap can take, why, and what it leaves (postmap(1)). The statuses are postgate's own.
-use Rattle.std.specs.Prelude.{◌≡◌, ◌⊎◌, ℕ, ◌++◌, true, false, List, Option, None, Some, Result, Ok, Err, ⊤, codes}
+use Rattle.std.specs.Prelude.{◌≡◌, ◌⊎◌, ℕ, ◌++◌, Bool, true, false, List, Option, None, Some, Result, Ok, Err, ⊤, codes, is_some}
 use Rattle.pf_base.specs.Outside.Known.{failed_tree, replaced}
 use Rattle.pf_base.specs.Outside.Objects.{Objects, Says, Streams, log_text, out_text, sink_status, status_of}
 use Rattle.pf_base.specs.Refusal.{refusal_line}
@@ -9,11 +9,15 @@ use Rattle.pf_base.specs.declared.outside.status.TheConstants.{AT_BUDGET, DONE, 
 use Rattle.pf_base.specs.declared.outside.texts.SinkFault.{SinkFault}
 use Rattle.pf_base.specs.declared.outside.texts.Texts.{Texts}
 use Rattle.pf_maincf.specs.File.{Kept, failed_line}
+use Rattle.pf_asks.specs.Clauses.Causes.{counted_if}
 use Rattle.pf_asks.specs.Looking.{Meaning}
+use Rattle.pf_maps.specs.Clauses.Opened.{is_of_size}
+use Rattle.pf_maps.specs.Opening.{Unopened}
+use Rattle.pf_maps.specs.Opening.{Unopened as unopened}
 use Rattle.pf_tools.specs.Map.Built.{cdb_name}
 use Rattle.pf_tools.specs.Map.Keys.{Answers}
 use Rattle.pf_tools.specs.Map.Lines.{pair_lines, value_line}
-use Rattle.pf_tools.specs.Map.Said.{Task, is_of, task_in}
+use Rattle.pf_tools.specs.Map.Said.{Happening, Task, is_of, task_in}
 use Rattle.pf_tools.specs.Map.Said.{Task as task}
 use Rattle.pf_tools.specs.declared.map.build.Built.{Built}
 use Rattle.pf_tools.specs.declared.map.keys.Ended.{Ended}
@@ -24,12 +28,19 @@ use Rattle.pf_words.specs.declared.postmap.MapWords.{MapWords}
 
 -- the files give this to do, where they are known, and it is what the words ask for
 pub record IsTask (words : MapWords) (before : Objects) (t : Task) : Type 0 where
-  pub known : (files : List Pair) → before.files.content ≡ Some files → task_in words files ≡ Ok t
+  pub known : (files : List Pair) → before.files.content ≡ Some files → task_in None words files ≡ Ok t
   pub asked : is_of words.job t ≡ true
 
--- the table is refused, where the files are known
-abbrev pub IsRefused : MapWords → Objects → Refused → Type 0
-IsRefused words before refusal = (files : List Pair) → before.files.content ≡ Some files → task_in words files ≡ Err refusal
+-- what happened is named: the size of a pattern, or a file that was not read
+abbrev pub names_happening : Unopened → Bool
+names_happening (unopened.refuses refusal) = is_of_size refusal
+names_happening (unopened.fails file) = true
+
+-- there is nothing to do for this reason, where the files are known. Something happened that they do not say just if the reason names it.
+pub record IsStopped (words : MapWords) (before : Objects) (why : Unopened) : Type 0 where
+  pub happening : Happening
+  pub known : (files : List Pair) → before.files.content ≡ Some files → task_in happening words files ≡ Err why
+  pub named : is_some happening ≡ names_happening why
 
 -- a run puts a cdb in its place and says its warnings, or the cdb can't be put there; it prints the value of a key, if it has one, answers the keys of
 -- the input, prints pairs, says why a table is refused, or that a file can't be read; or it is out of memory before any of these, and in a build
@@ -67,9 +78,10 @@ Leaves words before now (serves meaning result) =
 Leaves words before now (lists pairs said) =
     IsTask words before (task.lists pairs) × Kept before.files now.files × SaysTexts before.streams now.streams (out_text (pair_lines pairs)) said
 Leaves words before now (refuses refusal said) =
-    IsRefused words before refusal × Kept before.files now.files × SaysTexts before.streams now.streams (log_text (refusal_line refusal)) said
+    IsStopped words before (unopened.refuses refusal) × Kept before.files now.files × SaysTexts before.streams now.streams (log_text (refusal_line refusal)) said
 Leaves words before now (unread file said) =
-    Kept (failed_tree before.files) now.files × SaysTexts before.streams now.streams (log_text (failed_line file (codes "read"))) said
+    IsStopped words before (unopened.fails file) × Kept (failed_tree before.files) now.files
+    × SaysTexts before.streams now.streams (log_text (failed_line file (codes "read"))) said
 Leaves words before now starves = Kept before.files now.files × (now.streams ≡ before.streams)
 Leaves words before now (starves_building built) =
     IsTask words before (task.builds built) × (Kept before.files now.files ⊎ Kept (replaced (cdb_name words.table) built.bytes before.files) now.files)
@@ -103,8 +115,15 @@ course_status (unread file said) = status_of FILES_FAILED said
 course_status starves = NO_MEMORY
 course_status (starves_building built) = NO_MEMORY
 
+-- the count of patterns that were refused for their size: it rose by one where the refusal names that, and may have where memory ran out
+abbrev pub Counts : ℕ → ℕ → Course → Type 0
+Counts old new (refuses refusal said) = new ≡ counted_if (is_of_size refusal) old
+Counts old new starves = (new ≡ old) ⊎ (new ≡ counted_if true old)
+Counts old new other = new ≡ old
+
 -- a run took a course
-pub record Took (words : MapWords) (before now : Objects) (status : ℕ) : Type 0 where
+pub record Took (words : MapWords) (before now : Objects) (old new : ℕ) (status : ℕ) : Type 0 where
   pub course : Course
   pub status_is : status ≡ course_status course
   pub leaves : Leaves words before now course
+  pub counts : Counts old new course

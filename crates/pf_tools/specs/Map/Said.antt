@@ -1,14 +1,14 @@
 -- What postmap has to do by its words and the files (postmap(1)). The refusals are postgate's own.
-use Rattle.std.specs.Prelude.{ℕ, ◌++◌, ◌==◌, Bool, true, false, List, [], ◌∷◌, Option, Result, Ok, codes, slice_get, if◌then◌else◌}
+use Rattle.std.specs.Prelude.{ℕ, ◌++◌, ◌==◌, Bool, true, false, List, [], ◌∷◌, Option, Some, None, Result, Ok, codes, slice_get, if◌then◌else◌}
 use Rattle.std.specs.List.{list_any}
 use Rattle.pf_base.specs.Results.{◌>>=◌}
 use Rattle.pf_base.specs.TableTexts.{TableTexts}
 use Rattle.pf_base.specs.Text.Ascii as ascii
 use Rattle.pf_base.specs.declared.pair.Pair.{Pair}
-use Rattle.pf_base.specs.declared.refused.Refused.{Refused}
 use Rattle.pf_asks.specs.Looking.{Meaning}
 use Rattle.pf_maps.specs.Clauses.Seen.{listed, meaning_in}
-use Rattle.pf_maps.specs.Opening.{tables_opened}
+use Rattle.pf_maps.specs.Opening.{Event, Unopened, has_failed, tables_opened}
+use Rattle.pf_maps.specs.Opening.{Event as event}
 use Rattle.pf_maps.specs.declared.node.Node.{Node}
 use Rattle.pf_tools.specs.Map.Built.{built_in}
 use Rattle.pf_tools.specs.Map.Lines.{value_at}
@@ -29,10 +29,22 @@ text_of table = if has_type table then table else codes "cdb:" ++ table
 abbrev pub specs_of : List ℕ → TableTexts
 specs_of table = record { file = codes "words"; texts = record { line = 0; text = text_of table } ∷ [] }
 
--- the table that is opened, or its first refusal
-abbrev pub table_in : MapWords → List Pair → Result (Option (List Node)) Refused
-table_in words files = do
-  tables ← tables_opened files words.folded (specs_of words.table)
+-- what may happen that the files do not say: at the place of a text, of which there is one, and at that of a table in it. A build
+-- has one file, and a read that failed is that file's, whatever the place.
+abbrev pub Happening : Type 0
+Happening = Option (ℕ × (ℕ × Event))
+
+abbrev pub read_at_first : Happening
+read_at_first = Some (0, (0, event.read_fails))
+
+abbrev pub is_unread : Happening → Bool
+is_unread None = false
+is_unread (Some (text, (table, event))) = has_failed (Some event)
+
+-- the table that is opened, or why it is not
+abbrev pub table_in : Happening → MapWords → List Pair → Result (Option (List Node)) Unopened
+table_in happening words files = do
+  tables ← tables_opened happening files words.folded (specs_of words.table)
   Ok (slice_get tables 0)
 
 -- what there is to do: to put a cdb in its place and warn of repeated keys, to say the value of a key, to answer the keys of the input by a table,
@@ -44,23 +56,23 @@ pub data Task : Type 0 where
   lists : List Pair → Task
 
 -- what there is to do by a job
-abbrev pub task_by : MapJob → MapWords → List Pair → Result Task Refused
-task_by (job.Build repeats warned) words files = do
-  built ← built_in words.table words.folded repeats warned files
+abbrev pub task_by : MapJob → Happening → MapWords → List Pair → Result Task Unopened
+task_by (job.Build repeats warned) happening words files = do
+  built ← built_in (is_unread happening) words.table words.folded repeats warned files
   Ok (builds built)
-task_by (job.Query key) words files = do
-  table ← table_in words files
+task_by (job.Query key) happening words files = do
+  table ← table_in happening words files
   Ok (answers (value_at (meaning_in table) key))
-task_by job.QueryInput words files = do
-  table ← table_in words files
+task_by job.QueryInput happening words files = do
+  table ← table_in happening words files
   Ok (serves (meaning_in table))
-task_by job.Elements words files = do
-  table ← table_in words files
+task_by job.Elements happening words files = do
+  table ← table_in happening words files
   Ok (lists (listed table))
 
--- what there is to do by words, or the first refusal
-abbrev pub task_in : MapWords → List Pair → Result Task Refused
-task_in words files = task_by words.job words files
+-- what there is to do by words, or why there is nothing
+abbrev pub task_in : Happening → MapWords → List Pair → Result Task Unopened
+task_in happening words files = task_by words.job happening words files
 
 -- a task is one of a job
 abbrev pub is_of : MapJob → Task → Bool

@@ -1,16 +1,16 @@
 //! A cdb that is built of a text.
-ghost use Rattle.std.specs.Prelude.{◌≡◌, ◌++◌, ◌==◌, true, IfOk, OnOk};
+ghost use Rattle.std.specs.Prelude.{◌≡◌, ◌++◌, ◌==◌, ◌<◌, Err, true, false, length, IfErr, IfOk, OnOk};
 ghost use Rattle.std.specs.List.{position};
 ghost use Rattle.std.specs.Str.{IsUtf8};
 ghost use Rattle.pf_base.specs.Clauses.Faults.{as_fault};
 ghost use Rattle.pf_base.specs.Clauses.Unless.{Unless};
 ghost use Rattle.pf_base.specs.Text.Ascii as ascii;
-ghost use Rattle.pf_cdb.specs.Written.{written_file};
-ghost use Rattle.pf_maps.specs.Clauses.Opened.{Opens, held_as};
+ghost use Rattle.pf_cdb.specs.Written.{written, written_file};
+ghost use Rattle.pf_maps.specs.Clauses.Opened.{Opens, held_as, names_size};
 ghost use Rattle.pf_tools.specs.Map.Built as spec;
 
-use pf_base::{Bytes, Cause, ConfFault, Files, List, NoMemory, Pair, add_line, decimal, refuse};
-use pf_cdb::{WriteFault, write};
+use pf_base::{Bytes, Cause, ConfFault, Files, NoMemory, add_line, decimal, refuse};
+use pf_cdb::{WriteFault, Writer};
 use pf_maps::{OpenFault, file_text};
 use pf_table::{Repeated, Repeats, TextRead, TextTable};
 use pf_words::MapWords;
@@ -102,11 +102,34 @@ fn warnings_of(
     }
 }
 
-// The bytes of a cdb of these pairs.
-fn cdb_of(alloc: Global, name: &[u8], pairs: &List<Pair>) -> Result<Bytes, ConfFault>
-    ensures { Unless result ConfFault.NoMemory (λ r. r ≡ as_fault (spec.cdb_or_refused name.now (written_file pairs.now))) }
+// A cdb to which the pairs of a table are added.
+#[tactic(auto, using(crate::proofs::BuiltLaws::one_more))]
+fn with_pairs(alloc: Global, text: &TextTable) -> Result<Writer, WriteFault>
+    ensures all { IfOk result (λ writer. writer ≡ text.now.pairs) }
+    ensures large { result ≡ Err WriteFault.TooLarge → 67108864 < length (written text.now.pairs) }
 {
-    match write(alloc, pairs) {
+    let mut writer = Writer::new(alloc)?;
+    for i in 0..text.len() {
+        let (key, value) = text.at(i);
+        writer = writer.add(key, value)?;
+    }
+    Ok(writer)
+}
+
+// The bytes of a cdb of the pairs of a table.
+fn written_bytes(alloc: Global, text: &TextTable) -> Result<Bytes, WriteFault>
+    ensures { Unless result WriteFault.NoMemory (λ r. r ≡ written_file text.now.pairs) }
+{
+    let writer = with_pairs(alloc, text)?;
+    let file = writer.finish(alloc)?;
+    Ok(file)
+}
+
+// The bytes of a cdb of this name.
+fn cdb_of(alloc: Global, name: &[u8], text: &TextTable) -> Result<Bytes, ConfFault>
+    ensures { Unless result ConfFault.NoMemory (λ r. r ≡ as_fault (spec.cdb_or_refused name.now (written_file text.now.pairs))) }
+{
+    match written_bytes(alloc, text) {
         Ok(bytes) => Ok(bytes),
         Err(WriteFault::TooLarge) => Err(refuse(alloc, b"words", 0, Cause::C15, name)),
         Err(WriteFault::NoMemory) => Err(ConfFault::NoMemory),
@@ -118,8 +141,7 @@ fn table_cdb(alloc: Global, table: &Bytes, text: &TextTable) -> Result<Bytes, Co
     ensures { Unless result ConfFault.NoMemory (λ r. r ≡ as_fault (spec.cdb_or_refused (spec.cdb_name table.now) (written_file text.now.pairs))) }
 {
     let name = cdb_name(alloc, table)?;
-    let pairs = text.pairs(alloc)?;
-    cdb_of(alloc, name.as_slice(), &pairs)
+    cdb_of(alloc, name.as_slice(), text)
 }
 
 // What is built of a text that was read.
@@ -175,7 +197,8 @@ pub(crate) fn build<F: Files>(
     warned: bool,
     files: &mut F,
 ) -> Result<Built, OpenFault>
-    ensures opens { Opens (F.known files.old) (F.known files.new) (λ all. spec.built_in words.now.table words.now.folded repeats warned all) result }
+    ensures opens { Opens (F.known files.old) (F.known files.new) (λ failed all. spec.built_in failed words.now.table words.now.folded repeats warned all) result }
+    ensures small { IfErr result (λ fault. names_size fault ≡ false) }
     ensures text { IfOk result (λ built. IsUtf8 (spec.text_name words.now.table)) }
 {
     let name = text_name(words.table.as_slice());

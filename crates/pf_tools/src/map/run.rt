@@ -1,5 +1,5 @@
 //! The top call of postmap.
-ghost use Rattle.std.specs.Prelude.{◌≡◌, ◌++◌, codes, slice_get, IfOk};
+ghost use Rattle.std.specs.Prelude.{◌≡◌, ℕ, ◌++◌, codes, slice_get, IfOk};
 ghost use Rattle.std.specs.Str.{IsUtf8};
 ghost use Rattle.pf_base.specs.Outside.Known.{Input, Output};
 ghost use Rattle.pf_base.specs.Outside.Objects.{Says, log_text, objects, out_text, sinks};
@@ -18,11 +18,12 @@ use crate::map::lines::{pair_lines, value_line};
 use crate::map::table::{open_table, pairs_of, value_of};
 use pf_base::status::{AT_BUDGET, DONE, FILES_FAILED, INPUT_FAILED, NO_MEMORY, REFUSED, WARNED};
 use pf_base::{
-    Bytes, Files, NoMemory, OuterFault, Refused, Sink, SinkFault, Source, status_behind, write_log,
+    Bytes, Files, NoMemory, OuterFault, Refused, Sink, SinkFault, Source, status_after, write_log,
     write_out,
 };
 use pf_maincf::failed_line;
 use pf_maps::{OpenFault, Tables};
+use pf_pcre::Patterns;
 use pf_table::Repeats;
 use pf_words::{MapJob, MapWords};
 use std::alloc::Global;
@@ -31,9 +32,7 @@ use std::alloc::Global;
 fn say_refused<J: Sink>(alloc: Global, refusal: &Refused, log: &mut J) -> Result<(), SinkFault>
     ensures { (out mail : Output) → Says (sinks out mail (J.known log.old)) (sinks out mail (J.known log.new)) (log_text (refusal_line refusal.now)) result }
 {
-    let Ok(line) = refusal.line(alloc) else {
-        return Err(SinkFault::NoMemory);
-    };
+    let line = refusal.line(alloc)?;
     write_log(log, line.as_slice())
 }
 
@@ -51,9 +50,7 @@ fn with_failed_line(alloc: Global, name: &[u8], warnings: &Bytes) -> Result<Byte
 fn say_unread<J: Sink>(alloc: Global, file: &[u8], log: &mut J) -> Result<(), SinkFault>
     ensures { (out mail : Output) → Says (sinks out mail (J.known log.old)) (sinks out mail (J.known log.new)) (log_text (failed_text file.now (codes "read"))) result }
 {
-    let Ok(line) = failed_line(alloc, file, b"read") else {
-        return Err(SinkFault::NoMemory);
-    };
+    let line = failed_line(alloc, file, b"read")?;
     write_log(log, line.as_slice())
 }
 
@@ -62,9 +59,9 @@ fn say_unopened<J: Sink>(alloc: Global, fault: OpenFault, log: &mut J) -> u8
     ensures { (out mail : Output) → SaysUnopened (sinks out mail (J.known log.old)) (sinks out mail (J.known log.new)) fault result }
 {
     match fault {
-        OpenFault::Refused(refusal) => status_behind(REFUSED, say_refused(alloc, &refusal, log)),
+        OpenFault::Refused(refusal) => status_after(REFUSED, say_refused(alloc, &refusal, log)),
         OpenFault::Failed { file } => {
-            status_behind(FILES_FAILED, say_unread(alloc, file.as_slice(), log))
+            status_after(FILES_FAILED, say_unread(alloc, file.as_slice(), log))
         }
         OpenFault::NoMemory => NO_MEMORY,
     }
@@ -113,7 +110,7 @@ fn say_value<O: Sink>(alloc: Global, tables: Tables, key: &[u8], out: &mut O) ->
     let Ok(line) = value_line(alloc, &value) else {
         return NO_MEMORY;
     };
-    status_behind(value_status(&value), write_out(out, line.as_slice()))
+    status_after(value_status(&value), write_out(out, line.as_slice()))
 }
 
 // Says all pairs.
@@ -127,7 +124,7 @@ fn say_pairs<O: Sink>(alloc: Global, tables: &Tables, out: &mut O) -> u8
     let Ok(lines) = pair_lines(alloc, pairs.as_slice()) else {
         return NO_MEMORY;
     };
-    status_behind(DONE, write_out(out, lines.as_slice()))
+    status_after(DONE, write_out(out, lines.as_slice()))
 }
 
 // Says the warnings, and that the cdb could not be put in its place.
@@ -140,9 +137,7 @@ fn say_unreplaced<J: Sink>(
     ensures { (out mail : Output) → Says (sinks out mail (J.known log.old)) (sinks out mail (J.known log.new))
         (log_text (warnings.now ++ failed_text name.now (codes "replace"))) result }
 {
-    let Ok(text) = with_failed_line(alloc, name, warnings) else {
-        return Err(SinkFault::NoMemory);
-    };
+    let text = with_failed_line(alloc, name, warnings)?;
     write_log(log, text.as_slice())
 }
 
@@ -162,9 +157,9 @@ fn put_built<F: Files, J: Sink>(
         unreachable!();
     };
     match files.replace(file, built.bytes.as_slice()) {
-        Ok(()) => status_behind(DONE, write_log(log, built.warnings.as_slice())),
+        Ok(()) => status_after(DONE, write_log(log, built.warnings.as_slice())),
         Err(OuterFault::Failed) => {
-            status_behind(
+            status_after(
                 FILES_FAILED,
                 say_unreplaced(alloc, name, &built.warnings, log),
             )
@@ -183,9 +178,9 @@ fn run_build<F: Files, J: Sink>(
     log: &mut J,
 ) -> u8
     requires { words.now.job ≡ MapJob.Build repeats warned }
-    ensures { (input : Input) (out mail : Output) → Took words.now
+    ensures { (input : Input) (out mail : Output) (count : ℕ) → Took words.now
         (objects input out mail (J.known log.old) (F.known files.old))
-        (objects input out mail (J.known log.new) (F.known files.new)) result }
+        (objects input out mail (J.known log.new) (F.known files.new)) count count result }
 {
     let Ok(name) = cdb_name(alloc, &words.table) else {
         return NO_MEMORY;
@@ -202,15 +197,16 @@ fn run_query<F: Files, O: Sink, J: Sink>(
     words: &MapWords,
     key: &[u8],
     files: &mut F,
+    patterns: &mut Patterns,
     out: &mut O,
     log: &mut J,
 ) -> u8
     requires { words.now.job ≡ MapJob.Query key.now }
     ensures { (input : Input) (mail : Output) → Took words.now
         (objects input (O.known out.old) mail (J.known log.old) (F.known files.old))
-        (objects input (O.known out.new) mail (J.known log.new) (F.known files.new)) result }
+        (objects input (O.known out.new) mail (J.known log.new) (F.known files.new)) patterns.old patterns.new result }
 {
-    match open_table(alloc, words, files) {
+    match open_table(alloc, words, files, patterns) {
         Ok(tables) => say_value(alloc, tables, key, out),
         Err(fault) => say_unopened(alloc, fault, log),
     }
@@ -221,15 +217,16 @@ fn run_elements<F: Files, O: Sink, J: Sink>(
     alloc: Global,
     words: &MapWords,
     files: &mut F,
+    patterns: &mut Patterns,
     out: &mut O,
     log: &mut J,
 ) -> u8
     requires { words.now.job ≡ MapJob.Elements }
     ensures { (input : Input) (mail : Output) → Took words.now
         (objects input (O.known out.old) mail (J.known log.old) (F.known files.old))
-        (objects input (O.known out.new) mail (J.known log.new) (F.known files.new)) result }
+        (objects input (O.known out.new) mail (J.known log.new) (F.known files.new)) patterns.old patterns.new result }
 {
-    match open_table(alloc, words, files) {
+    match open_table(alloc, words, files, patterns) {
         Ok(tables) => say_pairs(alloc, &tables, out),
         Err(fault) => say_unopened(alloc, fault, log),
     }
@@ -241,40 +238,43 @@ fn run_keys<S: Source, F: Files, O: Sink, J: Sink>(
     words: &MapWords,
     input: &mut S,
     files: &mut F,
+    patterns: &mut Patterns,
     out: &mut O,
     log: &mut J,
 ) -> u8
     requires { words.now.job ≡ MapJob.QueryInput }
     ensures { (mail : Output) → Took words.now
         (objects (S.known input.old) (O.known out.old) mail (J.known log.old) (F.known files.old))
-        (objects (S.known input.new) (O.known out.new) mail (J.known log.new) (F.known files.new)) result }
+        (objects (S.known input.new) (O.known out.new) mail (J.known log.new) (F.known files.new)) patterns.old patterns.new result }
 {
-    match open_table(alloc, words, files) {
+    match open_table(alloc, words, files, patterns) {
         Ok(tables) => { keys_status(answer_keys(alloc, tables, words.budget, input, out)) }
         Err(fault) => say_unopened(alloc, fault, log),
     }
 }
 
 /// Runs postmap: `words` are its words, the table is read from `files` and a cdb that is built is put there, keys come from `input`
-/// where they are asked for (`-q -`), the values and the pairs go to `out`, and warnings and why a table is refused to `log`. It answers the exit status: done, nothing found, the table is
-/// refused, the budget was taken, or no memory; those of `input`, `out`, `log` and `files` come only where their count rose. The
-/// statuses are postgate's own.
+/// where they are asked for (`-q -`), the values and the pairs go to `out`, and warnings and why a table is refused to `log`.
+/// `patterns` builds the patterns of tables that are opened, and counts the one for whose size a table is refused; a build leaves
+/// it. It answers the exit status: done, nothing found, the table is refused, the budget was taken, or no memory; those of
+/// `input`, `out`, `log` and `files` come only where their count rose. The statuses are postgate's own.
 pub fn postmap<S: Source, F: Files, O: Sink, J: Sink>(
     alloc: Global,
     words: &MapWords,
     input: &mut S,
     files: &mut F,
+    patterns: &mut Patterns,
     out: &mut O,
     log: &mut J,
 ) -> u8
     ensures { (mail : Output) → PostmapRun words.now
         (objects (S.known input.old) (O.known out.old) mail (J.known log.old) (F.known files.old))
-        (objects (S.known input.new) (O.known out.new) mail (J.known log.new) (F.known files.new)) result }
+        (objects (S.known input.new) (O.known out.new) mail (J.known log.new) (F.known files.new)) patterns.old patterns.new result }
 {
     match &words.job {
         MapJob::Build(repeats, warned) => run_build(alloc, words, *repeats, *warned, files, log),
-        MapJob::Query(key) => run_query(alloc, words, key.as_slice(), files, out, log),
-        MapJob::QueryInput => run_keys(alloc, words, input, files, out, log),
-        MapJob::Elements => run_elements(alloc, words, files, out, log),
+        MapJob::Query(key) => run_query(alloc, words, key.as_slice(), files, patterns, out, log),
+        MapJob::QueryInput => run_keys(alloc, words, input, files, patterns, out, log),
+        MapJob::Elements => run_elements(alloc, words, files, patterns, out, log),
     }
 }

@@ -1,6 +1,6 @@
 //! The table that words name.
 ghost use Rattle.std.specs.Prelude.{◌≡◌, IfOk, slice_get};
-ghost use Rattle.pf_maps.specs.Clauses.Opened.{Opens};
+ghost use Rattle.pf_maps.specs.Clauses.Opened.{OpensWith};
 ghost use Rattle.pf_maps.specs.Clauses.Seen.{listed, opened};
 ghost use Rattle.pf_maps.specs.Opening.{tables_opened};
 ghost use Rattle.pf_tools.specs.Clauses.Opened.{meant};
@@ -10,6 +10,7 @@ ghost use Rattle.pf_tools.specs.Map.Said as spec;
 use pf_asks::{Found, Lookup, TableFault};
 use pf_base::{Bytes, Files, List, NoMemory, Pair, Specs, TableId};
 use pf_maps::{OpenFault, Tables};
+use pf_pcre::Patterns;
 use pf_words::MapWords;
 use std::alloc::Global;
 
@@ -51,13 +52,14 @@ pub(crate) fn open_table<F: Files>(
     alloc: Global,
     words: &MapWords,
     files: &mut F,
+    patterns: &mut Patterns,
 ) -> Result<Tables, OpenFault>
-    ensures { Opens (F.known files.old) (F.known files.new) (λ all. opened (tables_opened all words.now.folded (spec.specs_of words.now.table))) result }
+    ensures { OpensWith (F.known files.old) (F.known files.new) patterns.old patterns.new (λ event all. opened (tables_opened event all words.now.folded (spec.specs_of words.now.table))) result }
 {
     let Ok(specs) = specs_of(alloc, words.table.as_slice()) else {
         return Err(OpenFault::NoMemory);
     };
-    Tables::open(alloc, &specs, words.folded, files)
+    Tables::open(alloc, &specs, words.folded, files, patterns)
 }
 
 /// The pairs of the table.

@@ -6,5 +6,5 @@ returns-in_default g c = λ input mail. runs_short c.args.words.now _ _ input ma
 
 pub returns : goal.returns
 returns g c = λ input mail.
-    runs c.args.words.now _ _ input mail _ _ _ _ c.in-Ok.report c.in-Ok.ensures.ok c.say.result c.status_behind.result c.status_behind.ensures (c.say.ensures.says mail)
+    runs c.args.words.now _ _ input mail _ _ _ _ c.in-Ok.report c.in-Ok.ensures.ok c.say.result c.status_after.result c.status_after.ensures (c.say.ensures.says mail)
     c.say.ensures.no_output c.say.ensures.nothing c.in-Ok.ensures.output c.in-Ok.ensures.same

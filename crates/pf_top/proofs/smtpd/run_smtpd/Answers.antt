@@ -16,13 +16,13 @@ pub returns-in-Err-Refused : goal.returns-in-Err-Refused
 returns-in-Err-Refused g c =
     let is = c.in-Err-Refused.field-0-is in
     let known = rw (is, c.as_slice-file.ensures, c.in-Ok.ensures) at c.in-Err-Refused.ensures.known in
-    took_course c.args.words.now _ _ _ (course.refuses c.in-Err-Refused.refusal c.say_refused.result) c.status_behind.ensures
+    took_course c.args.words.now _ _ _ (course.refuses c.in-Err-Refused.refusal c.say_refused.result) c.status_after.ensures
     (known, c.in-Err-Refused.ensures.kept (λ e. cc), record { says = c.say_refused.ensures _ _; input = refl })
 
 pub returns-in-Err-Failed : goal.returns-in-Err-Failed
 returns-in-Err-Failed g c =
     let says = rw (c.as_slice-file.ensures, c.in-Ok.ensures) at (c.say_unread.ensures (g.O.Sink.known c.args.out.now) (g.M.Sink.known c.args.mail.now)) in
-    took_course c.args.words.now _ _ _ (course.unread c.say_unread.result) c.status_behind-in-Err-Failed.ensures
+    took_course c.args.words.now _ _ _ (course.unread c.say_unread.result) c.status_after-in-Err-Failed.ensures
     (c.in-Err-Failed.ensures.failed (ap Err c.in-Err-Failed.field-0-is), record { says = says; input = refl })
 
 pub returns : goal.returns

@@ -2,7 +2,7 @@ use Rattle.pf_tools.proofs.MapLaws.{took_postmap}
 use Rattle.pf_tools.proofs.map.run.postmap.Goals as goal
 
 pub returns-in-Build : goal.returns-in-Build
-returns-in-Build g c = λ mail. took_postmap (c.run_build.ensures (g.S.Source.known c.args.input.now) (g.O.Sink.known c.args.out.now) mail)
+returns-in-Build g c = λ mail. took_postmap (c.run_build.ensures (g.S.Source.known c.args.input.now) (g.O.Sink.known c.args.out.now) mail c.args.patterns.now)
 
 pub returns-in-Query : goal.returns-in-Query
 returns-in-Query g c = λ mail. took_postmap (c.run_query.ensures (g.S.Source.known c.args.input.now) mail)

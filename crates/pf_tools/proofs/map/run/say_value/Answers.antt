@@ -15,5 +15,5 @@ returns g c = λ mail log.
     record {
       said = c.write_out.result;
       says = rw (c.as_slice.ensures, c.in-Ok-value_line.ensures, value) at (c.write_out.ensures.says mail log);
-      is = rw (c.value_status.ensures, value) at c.status_behind.ensures;
+      is = rw (c.value_status.ensures, value) at c.status_after.ensures;
     }
