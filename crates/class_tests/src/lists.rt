@@ -37,8 +37,8 @@ fn pairs(alloc: Global, texts: &[(&[u8], &[u8])]) -> Result<List<Pair>, NoMemory
     Ok(pairs)
 }
 
-// The tables of all rows, where these calls fail.
-fn tables(alloc: Global, failing: List<u64>) -> Result<FixedLookup, NoMemory> {
+/// The tables of all rows, where these calls fail.
+pub(crate) fn tables(alloc: Global, failing: List<u64>) -> Result<FixedLookup, NoMemory> {
     let mut tables = List::new(alloc);
     tables.push(pairs(alloc, &TABLE)?)?;
     tables.push(pairs(alloc, &FILE)?)?;
@@ -102,7 +102,8 @@ fn failing(alloc: Global, text: &str) -> Result<List<u64>, NoMemory> {
     Ok(numbers)
 }
 
-fn own(alloc: Global) -> Result<List<Addr>, NoMemory> {
+/// The addresses of the own interfaces.
+pub(crate) fn own(alloc: Global) -> Result<List<Addr>, NoMemory> {
     let mut own = List::new(alloc);
     for text in [b"192.0.2.1".as_slice(), b"2001:db8::1"] {
         if let Some(address) = Addr::read(text) {
@@ -163,6 +164,21 @@ fn class_name(class: Class) -> &'static [u8] {
     }
 }
 
+/// Adds whether a domain is local by these domains.
+pub(crate) fn add_local_by(
+    alloc: Global,
+    said: &mut Bytes,
+    domains: &Domains,
+    tables: &mut FixedLookup,
+    domain: &str,
+) -> Result<(), NoMemory> {
+    if !are_there(alloc, tables, &domains.mydestination)? {
+        return said.extend(b"no such table");
+    }
+    let answer = domains.local(alloc, domain.as_bytes(), tables);
+    add_answer(said, answer)
+}
+
 /// Adds whether a domain is local.
 pub(crate) fn add_local(
     alloc: Global,
@@ -172,15 +188,11 @@ pub(crate) fn add_local(
 ) -> Result<(), NoMemory> {
     let domains = domains(alloc, lists)?;
     let mut tables = tables(alloc, failing(alloc, lists)?)?;
-    if !are_there(alloc, &tables, &domains.mydestination)? {
-        return said.extend(b"no such table");
-    }
-    let answer = domains.local(alloc, domain.as_bytes(), &mut tables);
-    add_answer(said, answer)
+    add_local_by(alloc, said, &domains, &mut tables, domain)
 }
 
-// Adds the class of a domain by these domains, which is asked for so many times.
-fn add_class_by(
+/// Adds the class of a domain by these domains, which is asked for so many times.
+pub(crate) fn add_class_by(
     alloc: Global,
     said: &mut Bytes,
     domains: &Domains,
@@ -269,6 +281,24 @@ pub(crate) fn add_many(
     )
 }
 
+/// Adds whether an address is in mynetworks by these domains.
+pub(crate) fn add_networks_by(
+    alloc: Global,
+    said: &mut Bytes,
+    domains: &Domains,
+    tables: &mut FixedLookup,
+    address: &str,
+) -> Result<(), NoMemory> {
+    let Some(address) = Addr::read(address.as_bytes()) else {
+        return said.extend(b"no address");
+    };
+    if !are_there(alloc, tables, &domains.mynetworks)? {
+        return said.extend(b"no such table");
+    }
+    let answer = domains.in_networks(alloc, &address, tables);
+    add_answer(said, answer)
+}
+
 /// Adds whether an address is in mynetworks.
 pub(crate) fn add_networks(
     alloc: Global,
@@ -278,23 +308,25 @@ pub(crate) fn add_networks(
 ) -> Result<(), NoMemory> {
     let domains = domains(alloc, lists)?;
     let mut tables = tables(alloc, failing(alloc, lists)?)?;
-    let Some(address) = Addr::read(address.as_bytes()) else {
-        return said.extend(b"no address");
-    };
-    if !are_there(alloc, &tables, &domains.mynetworks)? {
-        return said.extend(b"no such table");
+    add_networks_by(alloc, said, &domains, &mut tables, address)
+}
+
+/// Adds whether an address is that of an own interface of these domains.
+pub(crate) fn add_own_by(
+    said: &mut Bytes,
+    domains: &Domains,
+    address: &str,
+) -> Result<(), NoMemory> {
+    match Addr::read(address.as_bytes()) {
+        None => said.extend(b"no address"),
+        Some(address) => add_answer(said, Ok(domains.own(&address))),
     }
-    let answer = domains.in_networks(alloc, &address, &mut tables);
-    add_answer(said, answer)
 }
 
 /// Adds whether an address is that of an own interface.
 pub(crate) fn add_own(alloc: Global, said: &mut Bytes, address: &str) -> Result<(), NoMemory> {
     let domains = domains(alloc, "")?;
-    match Addr::read(address.as_bytes()) {
-        None => said.extend(b"no address"),
-        Some(address) => add_answer(said, Ok(domains.own(&address))),
-    }
+    add_own_by(said, &domains, address)
 }
 
 /// Adds what an address resolves to, with the local domains of these lists and all four switches on.

@@ -12,18 +12,24 @@
 //! semicolons, and a list is its items, parted by spaces: names with commas between them, a net, `table:N`, `file:N`, each maybe
 //! after `!`. `fails:N` among them says that call N on the tables fails. Table 0 has the keys `table.test` and `192.0.2.1`. Table 1
 //! is a list file with `@in.test`, `@sub.in.test` and `10.0.0.1` as `yes`, and `@out.test`, `10.0.0.2` and `in.test` as `no`.
+//! `site local DOMAIN`, `site class DOMAIN`, `site networks ADDRESS`, `site own ADDRESS` and `site standard LOCAL` ask the same of a
+//! main.cf, which is the text of the row, the last for the standard form of a local part without a domain. The tables are those
+//! above in the order of the table texts of the settings, and the machine has the two addresses.
+//!
 //! `many NAMES TURNS` asks for a class so many times, where mydestination has so many names, `n0.test`, `n1.test` ..;
 //! bench/names.py measures that.
 #![tactic(auto)]
 
 mod lists;
 mod settings;
+mod site;
 
 use lists::{add_class, add_local, add_many, add_networks, add_own, resolved_text};
 use pf_addr::{Address, Path, PathFault, path, print};
 use pf_base::{Bytes, NoMemory};
 use row_files::{Says, judge_rows};
 use settings::{SETTINGS, is_meant, rules};
+use site::add_site;
 use std::alloc::Global;
 use std::process::ExitCode;
 
@@ -137,6 +143,7 @@ impl Says for Asked {
             "local" => add_local(alloc, said, behind, text),
             "class" => add_class(alloc, said, behind, text),
             "many" => add_many(alloc, said, behind, text),
+            "site" => add_site(alloc, said, behind, text),
             "networks" => add_networks(alloc, said, behind, text),
             _ => add_address(alloc, said, kind, behind, text),
         }

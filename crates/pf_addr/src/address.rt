@@ -33,7 +33,7 @@ pub struct PathRead {
 pub enum PathFault {
     /// The text begins with no path.
     Malformed,
-    /// Memory was wanting.
+    /// Out of memory.
     NoMemory,
 }
 

@@ -1,14 +1,14 @@
 -- What calls that ask tables have led to, in turn, and what lack of memory broke off. Each caller's answers rest on ok_next and fault_next.
-use Rattle.std.proofs.Common.{◌≡◌, ◌≢◌, ◌≤◌, ◌⊎◌, inl, inr, ◌++◌, ℕ, List, ◌∷◌, [], length, Option, Result, Ok, Err, refl, sym, ap, ◌∙◌, arith, append-nil}
+use Rattle.std.proofs.Common.{◌≡◌, ◌≤◌, inl, inr, ℕ, List, ◌∷◌, [], length, Option, Result, Ok, Err, sym, ap, ◌∙◌, arith, append-nil}
 use Rattle.pf_asks.proofs.BrokenLaws.{broken_first, broken_next}
 use Rattle.pf_asks.proofs.LedLaws.{behind_behind, led_next, led_refl, led_same, led_trans}
-use Rattle.pf_asks.specs.Clauses.Led.{BrokenOff, ByTables, Led, Same, TablesBroken, TablesLed, World}
+use Rattle.pf_asks.specs.Clauses.Led.{BrokenOff, ByTables, Led, Same, TablesLed, World}
 use Rattle.pf_asks.specs.Heard.{next}
 use Rattle.pf_asks.specs.Looking.{Looked, Tables}
 use Rattle.pf_asks.specs.Questions as questions
 use Rattle.pf_asks.specs.Questions.{Ask, behind, done, look}
 use Rattle.pf_asks.specs.Tries.{Try, ok, on_ok, ◌>>=◌}
-use Rattle.pf_class.specs.Clauses.Asking.{EndsWith, HearsOn, IsOrWants, Leaves, TriesOrWants, Wants}
+use Rattle.pf_class.specs.Clauses.Asking.{EndsWith, HearsOn, IsOrWants, Leaves, TriesOrWants}
 use Rattle.pf_class.specs.declared.fault.ClassFault.{ClassFault}
 use Rattle.pf_class.specs.declared.fault.ClassFault.TheVariants.{NoMemory}
 

@@ -1,12 +1,12 @@
 -- What is to be heard of the questions whether a domain is local, and which class it has.
-use Rattle.std.proofs.Common.{◌≡◌, ℕ, Bool, true, false, List, refl, if◌then◌else◌}
-use Rattle.pf_asks.specs.Tries.{Try, ok, ◌>>=◌}
+use Rattle.std.proofs.Common.{ℕ, Bool, true, false, List, if◌then◌else◌}
+use Rattle.pf_asks.specs.Tries.{Try, ok}
 use Rattle.pf_cidr.specs.declared.address.Addr.{Addr}
 use Rattle.pf_class.proofs.AskingLaws.{hears_next}
 use Rattle.pf_class.proofs.MemberLaws.{hears_member, hears_ok}
 use Rattle.pf_class.specs.Classes.{alias_class, class_of, in_networks, mailbox_class, or_after, relay_class}
 use Rattle.pf_class.specs.Clauses.Asking.{HearsOn}
-use Rattle.pf_class.specs.Local.{is_local, is_own_literal}
+use Rattle.pf_class.specs.Local.{is_local}
 use Rattle.pf_class.specs.Subjects.{address_subject, domain_subject, subdomain_subject}
 use Rattle.pf_class.specs.declared.class.Class.{Class}
 use Rattle.pf_class.specs.declared.domains.Domains.{Domains}

@@ -1,10 +1,10 @@
 -- What is to be heard of questions to lists, and which tables are there.
-use Rattle.std.proofs.Common.{◌≡◌, ◌<◌, ◌≤◌, ◌+◌, ℕ, zero, suc, Bool, true, false, List, [], ◌∷◌, Option, None, Some, Result, Ok, Err, arith, drop, get_or, length}
+use Rattle.std.proofs.Common.{◌≡◌, ◌<◌, ◌≤◌, ◌+◌, ℕ, zero, suc, Bool, false, List, [], ◌∷◌, Option, None, Some, Result, Ok, arith, drop, get_or, length}
 use Rattle.std.proofs.lemmas.List.{at_drop_all, at_drop_more}
 use Rattle.pf_asks.proofs.LedLaws.{can_find_back, can_find_prefix}
 use Rattle.pf_asks.specs.Clauses.Led.{ByTables, TablesLed}
-use Rattle.pf_asks.specs.Looking.{CanFind, Looked, Tables}
-use Rattle.pf_asks.specs.Questions.{Ask, done, look}
+use Rattle.pf_asks.specs.Looking.{CanFind, Tables}
+use Rattle.pf_asks.specs.Questions.{done}
 use Rattle.pf_asks.specs.Tries.{Try, ok}
 use Rattle.pf_asks.specs.declared.lookup.Found.{Found}
 use Rattle.pf_asks.specs.declared.lookup.Found.TheVariants.{Value, Absent}

@@ -1,5 +1,5 @@
 -- The steps of the resolved form.
-use Rattle.std.proofs.Common.{◌≡◌, ◌<◌, ◌≤◌, ℕ, zero, suc, Bool, true, false, List, [], Option, None, Some, Result, Ok, Err, length, refl, sym, ap, ◌∙◌, arith, subst, if◌then◌else◌}
+use Rattle.std.proofs.Common.{◌≡◌, ◌<◌, ◌≤◌, ℕ, zero, suc, Bool, true, false, List, Option, None, Some, Result, Ok, Err, length, refl, sym, ap, arith, if◌then◌else◌}
 use Rattle.pf_addr.specs.declared.address.Address.{Address}
 use Rattle.pf_asks.proofs.LedLaws.{led_same}
 use Rattle.pf_asks.specs.Clauses.Led.{ByTables, Same, TablesLed}

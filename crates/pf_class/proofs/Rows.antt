@@ -10,14 +10,17 @@ use Rattle.pf_asks.specs.Questions.{Ask, Means, done, look}
 use Rattle.pf_asks.specs.declared.lookup.Found.{Found}
 use Rattle.pf_asks.specs.declared.lookup.Found.TheVariants.{Value, Absent}
 use Rattle.pf_asks.specs.declared.lookup.Results.TheVariants.{Anything}
+use Rattle.pf_base.specs.declared.table_texts.TableText.{TableText}
 use Rattle.pf_cidr.specs.declared.address.Addr.TheVariants.{V4, V6}
 use Rattle.pf_class.specs.Classes.{alias_class, class_of, in_networks, mailbox_class, relay_class}
+use Rattle.pf_class.specs.Items.{domain_items}
 use Rattle.pf_class.specs.Local.{is_local, literal_address, literal_inside}
 use Rattle.pf_class.specs.Members.{first_value, is_member, item_says, looked, pattern_says}
 use Rattle.pf_class.specs.Resolved.{at_at, holds_operator, resolved, resolved_within, split}
+use Rattle.pf_class.specs.Site.{interfaces}
 use Rattle.pf_class.specs.Standard.{address_of, at_bang, at_percent, full_domain, is_short, parted, standard, standard_with, with_domain, with_mydomain, without_closing_dot}
 use Rattle.pf_class.specs.Subjects.{parents}
-use Rattle.pf_class.specs.declared.class.Class.TheVariants.{Local}
+use Rattle.pf_class.specs.declared.class.Class.TheVariants.{Default, Local, Relay}
 use Rattle.pf_class.specs.declared.domains.Domains.{Domains}
 use Rattle.pf_class.specs.declared.fault.ClassFault.{ClassFault}
 use Rattle.pf_class.specs.declared.fault.ClassFault.TheVariants.{LookupFailed}
@@ -57,6 +60,8 @@ addresses =
     ∷ address_of (codes "joe") (codes "example.com..")
     ∷ address_of (codes "joe") (codes "[192.0.2.1]")
     ∷ address_of (codes "joe") (codes ".")
+    ∷ address_of (codes "joe%[host") []
+    ∷ address_of (codes "joe%[host]") []
     ∷ []
 
 abbrev forms : List Address
@@ -75,6 +80,8 @@ forms =
     ∷ address_of (codes "joe") (codes "example.com.")
     ∷ address_of (codes "joe") (codes "[192.0.2.1]")
     ∷ address_of (codes "joe") []
+    ∷ address_of (codes "joe") (codes "[host.my.test")
+    ∷ address_of (codes "joe") (codes "[host]")
     ∷ []
 
 standard_forms : map (standard all) addresses ≡ forms
@@ -134,7 +141,7 @@ site = record {
   mydestination = destinations;
   virtual_alias_domains = item false (table 2) ∷ [];
   virtual_mailbox_domains = [];
-  relay_domains = [];
+  relay_domains = item false (Names (codes ".below.test" ∷ codes "relay.test" ∷ [])) ∷ [];
   mynetworks = item true (Net (record { addr = V4 167772161; prefix = 32 })) ∷ item false (Net (record { addr = V4 167772160; prefix = 8 })) ∷ [];
 }
 
@@ -177,6 +184,12 @@ classes : map (λ domain. answer (class_of site domain)) (codes "own.test" ∷ c
 unfolding class_of alias_class mailbox_class relay_class is_local is_member item_says pattern_says first_value looked look done questions.◌>>=◌ literal_address literal_inside
 classes = refl
 
+-- in relay_domains a name has the domains below it, and one with a dot before it is itself alone
+relayed : map (λ domain. answer (relay_class site domain)) (codes "x.Relay.test" ∷ codes "x..relay.test" ∷ codes ".below.test" ∷ codes "x..below.test" ∷ [])
+    ≡ (Ok Relay ∷ Ok Relay ∷ Ok Relay ∷ Ok Default ∷ [])
+unfolding relay_class is_member item_says pattern_says done questions.◌>>=◌
+relayed = refl
+
 -- the parents of a domain
 parents_of : parents (codes "a.b.test.") ≡ (codes "b.test." ∷ codes "test." ∷ [])
 parents_of = refl
@@ -185,3 +198,20 @@ parents_of = refl
 networks : map (λ address. answer (in_networks site address)) (V4 167772161 ∷ V4 167772162 ∷ V4 16909060 ∷ V6 1 ∷ []) ≡ (Ok false ∷ Ok true ∷ Ok false ∷ Ok false ∷ [])
 unfolding in_networks is_member item_says pattern_says first_value looked look done questions.◌>>=◌
 networks = refl
+
+-- the items of lists: names, tables and list files by their places among the table texts, and what is none of them
+abbrev texts : List TableText
+texts = record { line = 1; text = codes "texthash:t" } ∷ record { line = 1; text = codes "/list" } ∷ []
+
+domains_listed : domain_items texts (codes "A.test" ∷ codes "!b.test" ∷ codes "texthash:t" ∷ codes "!/list" ∷ codes "cdb:other" ∷ codes "[::1]" ∷ [])
+    ≡ (item false (Names (codes "a.test" ∷ []))
+    ∷ item true (Names (codes "b.test" ∷ []))
+    ∷ item false (table 0)
+    ∷ item true (file 1)
+    ∷ item false (Names (codes "[::1]" ∷ []))
+    ∷ [])
+domains_listed = refl
+
+-- the own interfaces
+machine : map (interfaces (V4 1 ∷ [])) ((codes "all" ∷ []) ∷ (codes "loopback-only" ∷ []) ∷ [] ∷ []) ≡ ((V4 1 ∷ []) ∷ (V4 2130706433 ∷ V6 1 ∷ []) ∷ [] ∷ [])
+machine = refl

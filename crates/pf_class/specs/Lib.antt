@@ -1,7 +1,9 @@
 pub mod Classes
 pub mod Clauses
+pub mod Items
 pub mod Local
 pub mod Members
 pub mod Resolved
+pub mod Site
 pub mod Standard
 pub mod Subjects

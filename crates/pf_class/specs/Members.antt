@@ -1,6 +1,6 @@
 -- Membership in lists (ADDRESS_CLASS_README; postconf(5), mydestination, relay_domains, mynetworks): a list is read from the left, and the
 -- first item that matches decides.
-use Rattle.std.specs.Prelude.{ℕ, Bool, true, false, not, List, [], ◌∷◌, ◌++◌, Option, None, Some, Result, Ok, Err, codes, flat_map, if◌then◌else◌}
+use Rattle.std.specs.Prelude.{ℕ, ◌==◌, ◌&&◌, ◌||◌, Bool, true, false, not, List, [], ◌∷◌, ◌++◌, Option, None, Some, Result, Ok, Err, codes, flat_map, if◌then◌else◌}
 use Rattle.std.specs.List.{list_any}
 use Rattle.std.specs.Option.{option_map}
 use Rattle.std.specs.Str.{bytes_eq}
@@ -10,6 +10,7 @@ use Rattle.pf_asks.specs.Questions.{done, look}
 use Rattle.pf_asks.specs.Tries.{Try, ok, ◌>>=◌}
 use Rattle.pf_asks.specs.declared.lookup.Found.{Found}
 use Rattle.pf_asks.specs.declared.lookup.Found.TheVariants.{Value, Absent}
+use Rattle.pf_base.specs.Text.Ascii as ascii
 use Rattle.pf_base.specs.declared.table_texts.TableId.{TableId}
 use Rattle.pf_cidr.specs.Nets.{Network, net_has}
 use Rattle.pf_cidr.specs.declared.address.Addr.{Addr}
@@ -23,6 +24,16 @@ use Rattle.pf_class.specs.declared.subject.Subject.{Subject}
 -- a name is among names
 abbrev pub is_among : List (List ℕ) → List ℕ → Bool
 is_among names name = list_any (bytes_eq name) names
+
+abbrev pub begins_with_dot : List ℕ → Bool
+begins_with_dot [] = false
+begins_with_dot (b ∷ name) = b == ascii.dot
+
+-- a domain is among names, or a parent of it is that begins with no dot: `name` has the domains below it, and `.name` is itself alone
+abbrev pub names_domain : List (List ℕ) → List (List ℕ) → Bool
+names_domain names [] = false
+names_domain names (domain ∷ parents) =
+    is_among names domain || list_any (λ parent. not (begins_with_dot parent) && is_among names parent) parents
 
 -- a name more, unless it is there
 abbrev pub with_name : List (List ℕ) → List ℕ → List (List ℕ)
@@ -69,7 +80,7 @@ file_says Absent = None
 
 -- whether a subject that matches a pattern is a member
 unfoldable pub pattern_says : Pattern → Subject → Try ClassFault (Option Bool)
-pattern_says (Names names) subject = ok (if_matched (list_any (is_among names) subject.keys))
+pattern_says (Names names) subject = ok (if_matched (names_domain names subject.keys))
 pattern_says (Net net) subject = ok (if_matched (is_in_net net subject.address))
 pattern_says (Table id) subject = do
   found ← first_value id.0 subject.keys

@@ -6,6 +6,7 @@ use Rattle.std.specs.Option.{option_or}
 use Rattle.pf_base.specs.Text.Ascii as ascii
 use Rattle.pf_base.specs.Text.Names.{same_in_any_case}
 use Rattle.pf_addr.specs.declared.address.Address.{Address}
+use Rattle.pf_cidr.specs.Nets.{is_in_brackets}
 use Rattle.pf_class.specs.declared.rules.Rules.{Rules}
 
 abbrev pub has_dot : List ℕ → Bool
@@ -43,9 +44,9 @@ unfoldable pub with_domain : Rules → List ℕ → Address → Address
 with_domain rules myorigin address =
     if nat_lt 0 (length address.domain) then address else unwrap_or (parted rules address.local) (with_myorigin rules myorigin address)
 
--- a domain that is no literal and has no dot
+-- a domain that is no literal in brackets and has no dot
 unfoldable pub is_short : List ℕ → Bool
-is_short domain = nat_lt 0 (length domain) && not (slice_index domain 0 == ascii.left_bracket) && not (has_dot domain)
+is_short domain = nat_lt 0 (length domain) && not (is_in_brackets domain) && not (has_dot domain)
 
 -- domain.$mydomain (postconf(5), append_dot_mydomain)
 unfoldable pub with_mydomain : Rules → List ℕ → List ℕ → List ℕ

@@ -1,5 +1,5 @@
 -- What lists of domains and nets are asked (postconf(5), mydestination, relay_domains, mynetworks; DATABASE_README).
-use Rattle.std.specs.Prelude.{ℕ, ◌==◌, ◌&&◌, nat_lt, List, [], ◌∷◌, Option, None, Some, length, map, if◌then◌else◌}
+use Rattle.std.specs.Prelude.{ℕ, ◌==◌, ◌&&◌, nat_lt, List, [], ◌∷◌, None, Some, length, map, if◌then◌else◌}
 use Rattle.pf_base.specs.Text.Ascii as ascii
 use Rattle.pf_base.specs.Text.Names.{folded}
 use Rattle.pf_cidr.specs.Addresses.{printed}

@@ -8,7 +8,7 @@ use pf_base::NoMemory;
 pub enum ClassFault {
     /// A lookup failed.
     LookupFailed,
-    /// Memory was wanting.
+    /// Out of memory.
     NoMemory,
 }
 

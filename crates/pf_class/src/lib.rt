@@ -4,13 +4,16 @@
 mod class;
 mod domains;
 mod fault;
+mod gathering;
 mod item;
+mod items;
 mod literal;
 mod members;
 mod names;
 mod parts;
 mod resolved;
 mod rules;
+mod site;
 mod standard;
 mod subject;
 

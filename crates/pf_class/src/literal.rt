@@ -64,12 +64,19 @@ fn literal_inside(inside: &[u8]) -> Option<Addr>
     }
 }
 
+/// Whether a domain is a literal: it is in brackets.
+pub(crate) fn is_literal(domain: &[u8]) -> bool
+    ensures { result ≡ nets.is_in_brackets domain.now }
+{
+    2 <= domain.len() && domain[0] == b'[' && domain[domain.len() - 1] == b']'
+}
+
 // The address of a literal.
 #[tactic(auto, unfolding(crate::specs::Local::literal_address))]
 fn literal_address(domain: &[u8]) -> Option<Addr>
     ensures { result ≡ spec.literal_address domain.now }
 {
-    if 2 <= domain.len() && domain[0] == b'[' && domain[domain.len() - 1] == b']' {
+    if is_literal(domain) {
         literal_inside(&domain[1..domain.len() - 1])
     } else {
         None

@@ -1,5 +1,5 @@
 //! Membership in lists of domains, hosts and nets (ADDRESS_CLASS_README).
-ghost use Rattle.std.specs.Prelude.{◌≡◌, ◌∷◌, [], IfOk};
+ghost use Rattle.std.specs.Prelude.{◌≡◌, ◌∷◌, ◌&&◌, [], not, IfOk};
 ghost use Rattle.std.specs.List.{list_any};
 ghost use Rattle.std.specs.Option.{option_map, option_to_list};
 ghost use Rattle.pf_asks.specs.Looking.{CanFind};
@@ -52,11 +52,32 @@ fn first_value<T: Lookup>(
     Ok(Found::Absent)
 }
 
-// Whether one of the keys is among the names.
-fn has_one(names: &Names, keys: &[Bytes]) -> bool
-    ensures { result ≡ list_any (spec.is_among names.now) keys.now }
+fn begins_with_dot(name: &Bytes) -> bool
+    ensures { result ≡ spec.begins_with_dot name.now }
 {
-    keys.iter().any(|key| names.has(key))
+    match name.as_slice() {
+        [b'.', ..] => true,
+        _ => false,
+    }
+}
+
+// Whether a parent of a domain that does not begin with a dot is among the names.
+fn has_parent(names: &Names, parents: &[Bytes]) -> bool
+    ensures { result ≡ list_any (λ parent. not (spec.begins_with_dot parent) && spec.is_among names.now parent) parents.now }
+{
+    parents
+        .iter()
+        .any(|parent| !begins_with_dot(parent) && names.has(parent))
+}
+
+// Whether a domain is among the names, or such a parent of it.
+fn has_one(names: &Names, keys: &[Bytes]) -> bool
+    ensures { result ≡ spec.names_domain names.now keys.now }
+{
+    match keys {
+        [] => false,
+        [domain, parents @ ..] => names.has(domain) || has_parent(names, parents),
+    }
 }
 
 fn is_in_net(net: &Net, address: &Option<Addr>) -> bool

@@ -1,5 +1,5 @@
 //! Sets of names.
-ghost use Rattle.std.specs.Prelude.{◌≡◌, [], OnOk};
+ghost use Rattle.std.specs.Prelude.{◌≡◌, ◌==◌, [], length, OnOk, OnErr};
 ghost use Rattle.pf_base.specs.Text.Names.{folded};
 ghost use Rattle.pf_class.specs.Members as spec;
 
@@ -34,7 +34,8 @@ impl Names {
 
     // Adds a name that is in small letters.
     fn put(&mut self, name: Bytes) -> Result<(), NoMemory>
-        ensures { OnOk result (self.new ≡ spec.with_name self.old name) }
+        ensures ok { OnOk result (self.new ≡ spec.with_name self.old name) }
+        ensures err { OnErr result (self.new ≡ self.old) }
     {
         match self.names.insert_full(name) {
             Ok(_) => Ok(()),
@@ -42,12 +43,20 @@ impl Names {
         }
     }
 
-    /// Adds a name in small letters, where it is not there.
+    /// Adds a name in small letters, where it is not there. Where there is no memory nothing changes.
     pub fn add(&mut self, alloc: Global, name: &[u8]) -> Result<(), NoMemory>
-        ensures { OnOk result (self.new ≡ spec.with_name self.old (folded name.now)) }
+        ensures ok { OnOk result (self.new ≡ spec.with_name self.old (folded name.now)) }
+        ensures err { OnErr result (self.new ≡ self.old) }
     {
         let name = fold(alloc, name)?;
         self.put(name)
+    }
+
+    /// Whether there are no names.
+    pub fn is_empty(&self) -> bool
+        ensures { result ≡ (length self.now == 0) }
+    {
+        self.names.len() == 0
     }
 
     /// Whether a name in small letters is there.

@@ -6,7 +6,7 @@ ghost use Rattle.pf_class.specs.Resolved as resolved;
 ghost use Rattle.pf_class.specs.Standard as spec;
 ghost use Rattle.pf_class.specs.Standard.{address_of};
 
-use pf_base::{before_byte, behind_byte};
+use pf_base::{after_byte, before_byte};
 
 // The place after the last such byte, or 0 where there is none.
 fn place_behind(text: &[u8], byte: u8) -> usize
@@ -50,7 +50,7 @@ fn user_at<'a>(user: &'a [u8], site: &'a [u8]) -> Option<(&'a [u8], &'a [u8])>
 pub(crate) fn at_bang(local: &[u8]) -> Option<(&[u8], &[u8])>
     ensures { option_map (λ parts. address_of parts.0.now parts.1.now) result ≡ spec.at_bang local.now }
 {
-    user_at(behind_byte(local, b'!'), before_byte(local, b'!'))
+    user_at(after_byte(local, b'!'), before_byte(local, b'!'))
 }
 
 // The user and the site of `user%site`.

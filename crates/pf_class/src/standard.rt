@@ -4,6 +4,7 @@ ghost use Rattle.std.specs.Option.{option_map};
 ghost use Rattle.pf_class.specs.Standard as spec;
 ghost use Rattle.pf_class.specs.Standard.{address_of};
 
+use crate::literal::is_literal;
 use crate::parts::{at_bang, at_percent};
 use crate::rules::Rules;
 use pf_addr::Address;
@@ -16,15 +17,12 @@ fn has_dot(domain: &[u8]) -> bool
     domain.iter().any(|b| *b == b'.')
 }
 
-// Whether a domain is no literal and has no dot.
+// Whether a domain has no dot and is neither a literal nor empty.
 #[tactic(auto, unfolding(crate::specs::Standard::is_short))]
 fn is_short(domain: &[u8]) -> bool
     ensures { result ≡ spec.is_short domain.now }
 {
-    match domain {
-        [] => false,
-        [first, ..] => *first != b'[' && !has_dot(domain),
-    }
+    !domain.is_empty() && !is_literal(domain) && !has_dot(domain)
 }
 
 // A domain without one dot at its end.

@@ -1,4 +1,4 @@
-use Rattle.std.proofs.Common.{◌≡◌, sym}
+use Rattle.std.proofs.Common.{sym}
 use Rattle.std.proofs.lemmas.Result.{err_from_is_err_and}
 use Rattle.pf_asks.proofs.LedLaws.{led_refl, tables_can_find}
 use Rattle.pf_class.proofs.AskingLaws.{answer_led, memory_first}
