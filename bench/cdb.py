@@ -7,7 +7,8 @@ It runs the program of cdb_tests, as `rt run` in that crate's folder leaves it b
 came before, and for the entries of the measurement it looks whether both tools write the same bytes, whether each reads
 the other's file, and what is said of keys that are there and of others. With a C compiler it makes each allocation of a few
 small runs fail in turn: a run has to end as if none had failed, or with another status and no output. Then it prints processor
-times and the greatest resident memory, ours by theirs. It ends with 1 where a file, an answer or a run differs.
+times and the greatest resident memory, ours by theirs, and how much of ours an entry takes beyond the text and the file. It
+ends with 1 where a file, an answer or a run differs.
 """
 import os
 import random
@@ -138,10 +139,11 @@ def want_memory(folder, compiler):
 
 def measure(folder, count):
     pairs = [(b"user%d@dom%d.example.com" % (n, n % 1000), b"value%d" % n) for n in range(count)]
-    _, ours, theirs, (our_time, our_peak), (their_time, their_peak) = written(folder, pairs)
+    text, ours, theirs, (our_time, our_peak), (their_time, their_peak) = written(folder, pairs)
     size = ours.stat().st_size
+    beyond = (our_peak - text.stat().st_size - size) / count
     print(f"{count} entries, {size} bytes: ours {our_time:.3f} s, cdb -c {their_time:.3f} s, {our_time / their_time:.2f} times; "
-          f"resident {our_peak / 2**20:.1f} and {their_peak / 2**20:.1f} MiB")
+          f"resident {our_peak / 2**20:.1f} and {their_peak / 2**20:.1f} MiB; beyond the text and the file {beyond:.0f} bytes an entry")
     keys, none = folder / "keys", folder / "none"
     keys.write_bytes(b"".join(key + b"\n" for key, _ in pairs))
     none.write_bytes(b"")
