@@ -2,7 +2,7 @@
 ghost use Rattle.pf_cdb.specs.Sound.{IsSound};
 
 use pf_base::{Bytes, List, NoMemory, Pair, after_byte, before_byte, decimal};
-use pf_cdb::{Damage, WriteFault, Writer, check, elements, find};
+use pf_cdb::{Damage, WriteFault, Writer, Written, check, elements, find};
 use std::alloc::Global;
 
 // A writer to which the pairs of a text are added.
@@ -17,7 +17,8 @@ fn with_lines(alloc: Global, text: &[u8]) -> Result<Writer, WriteFault> {
 }
 
 fn written(alloc: Global, text: &[u8]) -> Result<Bytes, WriteFault> {
-    Ok(with_lines(alloc, text)?.finish(alloc)?)
+    let Written { bytes, .. } = with_lines(alloc, text)?.finish(alloc)?;
+    Ok(bytes)
 }
 
 /// The file for the pairs of a text.

@@ -2,16 +2,22 @@
 use crate::asking::add_number;
 use crate::described::{file_of, pairs_of};
 use pf_base::{Bytes, List, NoMemory, Pair};
-use pf_cdb::{WriteFault, Writer, write};
+use pf_cdb::{WriteFault, Writer, Written, write};
 use std::alloc::Global;
 
-// The file of a writer to which pairs are added one by one.
-fn added(alloc: Global, pairs: &List<Pair>) -> Result<Bytes, WriteFault> {
+// What a writer makes to which pairs are added one by one.
+fn written(alloc: Global, pairs: &List<Pair>) -> Result<Written, WriteFault> {
     let mut writer = Writer::new(alloc)?;
     for pair in pairs.as_slice() {
         writer = writer.add(pair.key.as_slice(), pair.value.as_slice())?;
     }
     Ok(writer.finish(alloc)?)
+}
+
+// Its file.
+fn added(alloc: Global, pairs: &List<Pair>) -> Result<Bytes, WriteFault> {
+    let Written { bytes, .. } = written(alloc, pairs)?;
+    Ok(bytes)
 }
 
 fn is_made(made: Result<Bytes, WriteFault>, wanted: &Bytes) -> Result<bool, NoMemory> {
@@ -30,6 +36,16 @@ pub fn add_made(alloc: Global, said: &mut Bytes, text: &str) -> Result<(), NoMem
     let by_write = is_made(write(alloc, &pairs), &wanted)?;
     let by_writer = is_made(added(alloc, &pairs), &wanted)?;
     said.extend(if by_write && by_writer { b"yes" } else { b"no" })
+}
+
+/// Adds whether a key comes more than once in pairs, as a writer says.
+pub fn add_repeats(alloc: Global, said: &mut Bytes, text: &str) -> Result<(), NoMemory> {
+    let pairs = pairs_of(alloc, text)?;
+    match written(alloc, &pairs) {
+        Ok(written) => said.extend(if written.repeats { b"yes" } else { b"no" }),
+        Err(WriteFault::TooLarge) => said.extend(b"too large"),
+        Err(WriteFault::NoMemory) => Err(NoMemory),
+    }
 }
 
 fn add_size(

@@ -8,13 +8,14 @@
 //! - `pairs` and `listed`: the lines of the pairs of a file that is kept; in `listed` without the null
 //!   bytes after a key and its value, where both have one
 //! - `made`: whether `write` makes this file of its pairs, and a writer does to which they are added
+//! - `repeats`: whether a writer says that a key comes more than once in some pairs
 //! - `large`: how many bytes the file of one pair has whose key is empty and whose value has so many bytes, or `too large`, as
 //!   `write` makes it and as a writer does
 //! - `sweep`: of how many files that differ from this one in a byte something else is said than the plain program says
 use crate::asking::{add_number, ask, damage_line, list};
 use crate::described::file_of;
 use crate::kept::{Question, add_kept};
-use crate::made::{add_large, add_made};
+use crate::made::{add_large, add_made, add_repeats};
 use crate::sweep::count_wrong;
 use pf_base::{Bytes, NoMemory};
 use pf_cdb::hash;
@@ -59,6 +60,7 @@ impl Says for Files {
         match kind {
             "hash" => add_number(alloc, said, u64::from(hash(text.as_bytes()))),
             "made" => add_made(alloc, said, text),
+            "repeats" => add_repeats(alloc, said, text),
             "large" => add_large(alloc, said, text.parse::<usize>().unwrap_or(0)),
             _ => add_of_file(alloc, said, kind, key.as_bytes(), file_of(alloc, text)?),
         }

@@ -22,16 +22,16 @@ use Rattle.pf_cdb.specs.Layout.{key_at, pair_at}
 use Rattle.pf_cdb.specs.Written.{HasDistinctKeys, firsts, placed, record_size, written}
 use Rattle.pf_cdb.specs.declared.layout.Slot.{Slot}
 
-abbrev places : ℕ → List Pair → List ℕ
+abbrev pub places : ℕ → List Pair → List ℕ
 places at pairs = map (λ slot. slot.at) (placed at pairs)
 
 -- of the slots of some records, whether the first that has the key of the record at a place names this place
-abbrev names : List ℕ → List Slot → ℕ → Bool
+abbrev pub names : List ℕ → List Slot → ℕ → Bool
 names file slots place =
     option_map_or (λ at. at == place) (option_map (λ slot. slot.at) (find (has_key file (key_at file place)) slots)) false
 
 -- whether the record at a place has another key than a pair
-abbrev is_other : List ℕ → Pair → ℕ → Bool
+abbrev pub is_other : List ℕ → Pair → ℕ → Bool
 is_other file pair place = not (bytes_eq (key_at file place) pair.key)
 
 bytes_turn : (a b : List ℕ) → bytes_eq a b ≡ bytes_eq b a
@@ -42,7 +42,7 @@ bytes_turn a b =
     (cases_Bool (bytes_eq b a))
 
 -- the first record is named by its slot
-names_first : (file : List ℕ) (at : ℕ) (pair : Pair) (slots : List Slot) → IsRecord file at pair → names file (record { hash = hash_of pair.key; at = at } ∷ slots) at ≡ true
+pub names_first : (file : List ℕ) (at : ℕ) (pair : Pair) (slots : List Slot) → IsRecord file at pair → names file (record { hash = hash_of pair.key; at = at } ∷ slots) at ≡ true
 names_first file at pair slots is =
     let slot : Slot = record { hash = hash_of pair.key; at = at } in
     let rest = find (has_key file (key_at file at)) slots in
@@ -51,7 +51,7 @@ names_first file at pair slots is =
     ∙ eq-eqb at at refl
 
 -- a later one where the others name it and it has another key
-names_later : (file : List ℕ) (at : ℕ) (pair : Pair) (slots : List Slot) (place : ℕ) → IsRecord file at pair → at + 1 ≤ place
+pub names_later : (file : List ℕ) (at : ℕ) (pair : Pair) (slots : List Slot) (place : ℕ) → IsRecord file at pair → at + 1 ≤ place
     → names file (record { hash = hash_of pair.key; at = at } ∷ slots) place ≡ (is_other file pair place && names file slots place)
 names_later file at pair slots place is above =
     let slot : Slot = record { hash = hash_of pair.key; at = at } in
@@ -123,7 +123,7 @@ pairs_named file at (pair ∷ pairs) records =
     ∙ ap (λ l. pair ∷ filter (λ p. not (bytes_eq p.key pair.key)) l) (pairs_named file next pairs (other_records file at pair pairs records))
 
 -- a record of the file is held where it is named
-held_names : (entries : List Pair) (place : ℕ) → Fits entries → is_held (written entries) place ≡ names (written entries) (placed 2048 entries) place
+pub held_names : (entries : List Pair) (place : ℕ) → Fits entries → is_held (written entries) place ≡ names (written entries) (placed 2048 entries) place
 unfolding is_held
 held_names entries place fits = ap (λ o. option_map_or (λ at. at == place) o false) (held_written entries (key_at (written entries) place) fits)
 

@@ -13,6 +13,7 @@ pub mod PlaceLaws
 pub mod RangeLaws
 pub mod ReachLaws
 pub mod RecordLaws
+pub mod RepeatLaws
 pub mod RoundLaws
 pub mod Rows
 pub mod SearchLaws

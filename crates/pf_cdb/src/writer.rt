@@ -1,6 +1,7 @@
 //! Files that are written pair by pair.
 ghost use Rattle.std.specs.Prelude.{◌≡◌, ◌+◌, ◌*◌, ◌<◌, ◌≤◌, ◌++◌, ℕ, List, true, false, [], ◌∷◌, length, map, IfOk, OnOk, None, Err, bytes_eq, find, replicate};
 ghost use Rattle.pf_cdb.specs.Clauses.Adding.{IsPrefix, pairs_at};
+ghost use Rattle.pf_cdb.specs.Clauses.Gathered.{slot_lists};
 ghost use Rattle.pf_cdb.specs.Damaged.{first_damage};
 ghost use Rattle.pf_cdb.specs.Held.{elements_of};
 ghost use Rattle.pf_cdb.specs.Sound.{IsSound};
@@ -9,10 +10,18 @@ ghost use Rattle.pf_cdb.specs.Written as spec;
 use crate::fault::WriteFault;
 use crate::hashing::hash;
 use crate::layout::{HEADER_SIZE, LENGTHS_SIZE, SLOT_SIZE, Slot};
+use crate::repeats::all_held;
 use crate::tables::{add_header, add_tables, add_word, buckets_of};
 use pf_base::{Bytes, FILE_LIMIT, NoMemory};
 use std::alloc::Global;
 use std::marker::Model;
+
+/// A file that was written, and whether a key comes more than once in its pairs.
+#[derive(Debug, Drop)]
+pub struct Written {
+    pub bytes: Bytes,
+    pub repeats: bool,
+}
 
 /// A cdb file to which pairs are added. A contract sees the pairs.
 #[derive(Drop)]
@@ -79,10 +88,15 @@ fn push_slot(slots: &mut Vec<Slot>, slot: Slot) -> Result<(), NoMemory>
     Ok(())
 }
 
-// Puts the header and the tables to the records.
-fn finished(alloc: Global, file: Bytes, slots: Vec<Slot>) -> Result<Bytes, NoMemory>
+// Puts the header and the tables to the records. The slots, those of each table together, are answered too.
+fn finished(
+    alloc: Global,
+    file: Bytes,
+    slots: Vec<Slot>,
+) -> Result<(Bytes, Vec<Vec<Slot>>), NoMemory>
     requires { IsPrefix file slots.items }
-    ensures { IfOk result (λ whole. whole ≡ spec.written (pairs_at file slots.items)) }
+    ensures whole { IfOk result (λ made. made.0 ≡ spec.written (pairs_at file slots.items)) }
+    ensures buckets { IfOk result (λ made. slot_lists made.1.items ≡ spec.by_table slots.items) }
 {
     let buckets = buckets_of(alloc, slots)?;
     let mut header = Bytes::new(alloc);
@@ -90,7 +104,7 @@ fn finished(alloc: Global, file: Bytes, slots: Vec<Slot>) -> Result<Bytes, NoMem
     let mut file = file;
     file.put_prefix(header.as_slice());
     add_tables(alloc, &mut file, buckets.as_slice())?;
-    Ok(file)
+    Ok((file, buckets))
 }
 
 impl Writer {
@@ -129,19 +143,23 @@ impl Writer {
         Ok(Writer { file, slots })
     }
 
-    /// The bytes of the file for the pairs that were added, in their order (cdb(5)). `check` accepts it, `elements` gives of each
-    /// key the first pair, and `find` its value.
-    pub fn finish(self, alloc: Global) -> Result<Bytes, NoMemory>
-        ensures file { IfOk result (λ file. file ≡ spec.written self) }
+    /// The file for the pairs that were added, in their order (cdb(5)), and whether a key comes more than once in them. `check`
+    /// accepts it, `elements` gives of each key the first pair, and `find` its value.
+    pub fn finish(self, alloc: Global) -> Result<Written, NoMemory>
+        ensures file { IfOk result (λ written. written.bytes ≡ spec.written self) }
+        ensures repeated { IfOk result (λ written. written.repeats ≡ true → spec.HasDistinctKeys self → ⊥) }
+        ensures single { IfOk result (λ written. written.repeats ≡ false → spec.HasDistinctKeys self) }
         ensures fits { length (spec.written self) ≤ 67108864 }
-        ensures sound { IfOk result (λ file. IsSound file) }
-        ensures undamaged { IfOk result (λ file. first_damage file ≡ None) }
-        ensures stands_for { IfOk result (λ file. elements_of file ≡ spec.firsts self) }
-        ensures distinct { spec.HasDistinctKeys self → IfOk result (λ file. elements_of file ≡ self) }
-        ensures finds { (key : List ℕ) → IfOk result (λ file.
-            find (λ pair. bytes_eq pair.key key) (elements_of file) ≡ find (λ pair. bytes_eq pair.key key) self) }
+        ensures sound { IfOk result (λ written. IsSound written.bytes) }
+        ensures undamaged { IfOk result (λ written. first_damage written.bytes ≡ None) }
+        ensures stands_for { IfOk result (λ written. elements_of written.bytes ≡ spec.firsts self) }
+        ensures distinct { spec.HasDistinctKeys self → IfOk result (λ written. elements_of written.bytes ≡ self) }
+        ensures finds { (key : List ℕ) → IfOk result (λ written.
+            find (λ pair. bytes_eq pair.key key) (elements_of written.bytes) ≡ find (λ pair. bytes_eq pair.key key) self) }
     {
         let Writer { file, slots } = self;
-        finished(alloc, file, slots)
+        let (bytes, buckets) = finished(alloc, file, slots)?;
+        let repeats = !all_held(bytes.as_slice(), buckets.as_slice());
+        Ok(Written { bytes, repeats })
     }
 }

@@ -8,7 +8,7 @@ ghost use Rattle.pf_cdb.specs.Written as spec;
 
 use crate::fault::WriteFault;
 use crate::sizing::fits;
-use crate::writer::Writer;
+use crate::writer::{Writer, Written};
 use pf_base::{Bytes, List, Pair};
 use std::alloc::Global;
 
@@ -31,8 +31,8 @@ fn file_of(alloc: Global, entries: &[Pair]) -> Result<Bytes, WriteFault>
     ensures large { result ≡ Err WriteFault.TooLarge → 67108864 < length (spec.written entries.now) }
 {
     let writer = with_all(alloc, entries)?;
-    let file = writer.finish(alloc)?;
-    Ok(file)
+    let Written { bytes, .. } = writer.finish(alloc)?;
+    Ok(bytes)
 }
 
 /// The bytes of the cdb file for the entries, in their order (cdb(5)). `check` accepts the file, `elements` gives of each key

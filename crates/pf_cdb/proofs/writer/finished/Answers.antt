@@ -19,5 +19,9 @@ pub returns : goal.returns
 returns c =
     let tables = ap (λ l. map filled (slot_lists l)) c.as_slice.ensures.value ∙ ap (map filled) c.in_ok-buckets.ensures in
     let again = ap (λ l. map filled (slot_lists l)) c.as_slice-3.ensures.value ∙ ap (map filled) c.in_ok-buckets.ensures in
-    finished_is c.args.file c.args.slots.items _ _ _ _ _ _ _ _ c.requires tables again c.len.ensures c.new-header.ensures c.in_ok-add_header.ensures
-    c.as_slice-2.ensures c.put_prefix.ensures c.in_ok-add_tables.ensures
+    record {
+      whole =
+          finished_is c.args.file c.args.slots.items _ _ _ _ _ _ _ _ c.requires tables again c.len.ensures c.new-header.ensures c.in_ok-add_header.ensures
+          c.as_slice-2.ensures c.put_prefix.ensures c.in_ok-add_tables.ensures;
+      buckets = c.in_ok-buckets.ensures;
+    }
