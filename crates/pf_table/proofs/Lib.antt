@@ -1,4 +1,6 @@
+pub mod AheadLaws
 pub mod CountLaws
+pub mod DistinctLaws
 pub mod FirstLaws
 pub mod IndexLaws
 pub mod KeptLaws

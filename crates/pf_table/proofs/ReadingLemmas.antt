@@ -1,104 +1,70 @@
 -- What one line more does to what is read of a text.
-use Rattle.std.proofs.Common.{◌≡◌, ℕ, Bool, true, false, List, [], ◌∷◌, Result, Ok, Err, refl, ap, ◌∙◌, if◌then◌else◌}
+use Rattle.std.proofs.Common.{◌≡◌, ◌<◌, ℕ, Bool, true, false, List, [], ◌∷◌, Option, None, Some, Result, Ok, Err, length, drop, refl, ap, arith}
 use Rattle.std.specs.List.{fold}
-use Rattle.pf_base.specs.Text.Logical.{Grouped, Physical, alone, continued, grouped, is_ignored, physical_lines, starts_with_space, unless_ignored}
+use Rattle.pf_base.specs.Text.Logical.{grouped, physical_lines}
 use Rattle.pf_base.specs.Results.{◌>>=◌}
 use Rattle.pf_base.specs.declared.text.logical.Logical.{Logical}
-use Rattle.pf_base.specs.declared.refused.Cause.TheVariants.{C1}
 use Rattle.pf_base.specs.declared.refused.ConfFault.{ConfFault}
 use Rattle.pf_base.specs.declared.refused.Refused.{Refused}
 use Rattle.pf_base.specs.Clauses.Faults.{as_fault}
-use Rattle.pf_base.specs.Refusal.{refused}
-use Rattle.pf_table.proofs.TextLemmas.{stays_fault}
-use Rattle.pf_table.specs.Clauses.Reading.{IsBegun, IsContinued, IsFresh, closed, entries_read, read_on, taken, taken_all}
-use Rattle.pf_table.specs.Text.{Entry, entries_in, entry_of, lines_in, lines_read, table_with, text_read}
+use Rattle.pf_table.specs.Clauses.Lines.{entry_if, first_entry}
+use Rattle.pf_table.specs.Clauses.Reading.{entries_read}
+use Rattle.pf_table.specs.Text.{Entry, entries_in, entry_of, lines_in, lines_read, no_entries, table_with, text_read, with_entry}
 use Rattle.pf_table.specs.declared.pairs.Repeats.{Repeats}
 use Rattle.pf_table.specs.declared.text.Entries.{Entries}
-use Rattle.pf_table.specs.declared.text.Reader.{Reader}
 
-abbrev no_lines : Grouped
-no_lines = record { leading = []; logical = [] }
+-- the entries of some lines are those of the first and then the others
+abbrev pub with_others : Option Entry → Result (List Entry) Refused → Result (List Entry) Refused
+with_others None others = Ok []
+with_others (Some entry) others = others >>= (λ more. Ok (entry ∷ more))
 
--- a line and those after it
-take_first : (repeats : Repeats) (entries : Entries) (first : Result Entry Refused) (others : Result (List Entry) Refused)
-    → taken_all repeats entries (first >>= (λ entry. others >>= (λ more. Ok (entry ∷ more))))
-    ≡ (taken repeats entries first >>= (λ more. taken_all repeats more others))
-take_first repeats entries (Ok entry) (Ok more) = refl
-take_first repeats entries (Ok entry) (Err refusal) = refl
-take_first repeats entries (Err refusal) others = refl
-
-take_one : (repeats : Repeats) (entries : Entries) (first : Result Entry Refused)
-    → taken_all repeats entries (first >>= (λ entry. Ok (entry ∷ []))) ≡ taken repeats entries first
-take_one repeats entries (Ok entry) = refl
-take_one repeats entries (Err refusal) = refl
-
--- once no line follows
-pub read_at_end : (file : List ℕ) (folds : Bool) (repeats : Repeats) (reader : Reader) → read_on file folds repeats reader (record { leading = []; logical = [] }) ≡ closed file folds repeats reader
-read_at_end file folds repeats reader = by reader.begun
+pub read_first : (file : List ℕ) (folds : Bool) (left : List Logical)
+    → lines_read file folds left ≡ (first_entry file folds left >>= (λ first. with_others first (lines_read file folds (drop 1 left))))
+read_first file folds [] = refl
+read_first file folds (logical ∷ lines) = by (entry_of file folds logical)
   where
-    by : (b : Bool) → ((if b then Ok (reader.line ∷ []) else Ok []) >>= (λ lines. taken_all repeats reader.entries (lines_read file folds lines)))
-        ≡ (if b then taken repeats reader.entries (entry_of file folds reader.line) else Ok reader.entries)
-    by true = take_one repeats reader.entries (entry_of file folds reader.line)
-    by false = refl
+    by : (answer : Result Entry Refused)
+        → (answer >>= (λ entry. lines_read file folds lines >>= (λ more. Ok (entry ∷ more))))
+        ≡ (answer >>= (λ entry. Ok (Some entry)) >>= (λ first. with_others first (lines_read file folds lines)))
+    by (Ok entry) = refl
+    by (Err refusal) = refl
 
--- lines before which the last logical line ends
-after_closed : (file : List ℕ) (folds : Bool) (repeats : Repeats) (reader : Reader) (lines : List Logical)
-    → read_on file folds repeats reader (record { leading = []; logical = lines })
-    ≡ (closed file folds repeats reader >>= (λ entries. taken_all repeats entries (lines_read file folds lines)))
-after_closed file folds repeats reader lines = by reader.begun
+-- where there is a first one, fewer are left
+pub fewer : (file : List ℕ) (folds : Bool) (left : List Logical) (entry : Entry) → first_entry file folds left ≡ Ok (entry_if true entry)
+    → length (drop 1 left) < length left
+fewer file folds [] entry is = cc
+fewer file folds (logical ∷ lines) entry is = omega arith
+
+-- the entries so far and those of more lines
+abbrev pub taken_all : Repeats → Entries → Result (List Entry) Refused → Result Entries Refused
+taken_all repeats entries answer = answer >>= (λ more. Ok (fold (with_entry repeats) entries more))
+
+pub taken_more : (file : List ℕ) (folds : Bool) (repeats : Repeats) (entries : Entries) (left : List Logical) (entry : Entry)
+    → first_entry file folds left ≡ Ok (entry_if true entry)
+    → taken_all repeats entries (lines_read file folds left) ≡ taken_all repeats (with_entry repeats entries entry) (lines_read file folds (drop 1 left))
+taken_more file folds repeats entries left entry first = rw (read_first file folds left, first) (by (lines_read file folds (drop 1 left)))
   where
-    by : (b : Bool) → ((if b then Ok (reader.line ∷ lines) else Ok lines) >>= (λ all. taken_all repeats reader.entries (lines_read file folds all)))
-        ≡ ((if b then taken repeats reader.entries (entry_of file folds reader.line) else Ok reader.entries)
-        >>= (λ entries. taken_all repeats entries (lines_read file folds lines)))
-    by true = take_first repeats reader.entries (entry_of file folds reader.line) (lines_read file folds lines)
-    by false = refl
+    by : (others : Result (List Entry) Refused) → taken_all repeats entries (with_others (Some entry) others) ≡ taken_all repeats (with_entry repeats entries entry) others
+    by (Ok more) = refl
+    by (Err refusal) = refl
 
--- a line that is ignored
-pub ignored_line : (line : Physical) (g : Grouped) → is_ignored line.text ≡ true → unless_ignored line g ≡ g
-ignored_line line g ignored = rw ignored refl
+pub taken_end : (file : List ℕ) (folds : Bool) (repeats : Repeats) (entries : Entries) (left : List Logical) (entry : Entry)
+    → first_entry file folds left ≡ Ok (entry_if false entry) → taken_all repeats entries (lines_read file folds left) ≡ Ok entries
+taken_end file folds repeats entries left entry first = rw (read_first file folds left, first) refl
 
--- a line that begins a logical line
-begins : (line : Physical) (g : Grouped) → is_ignored line.text ≡ false → starts_with_space line.text ≡ false
-    → unless_ignored line g ≡ record { leading = []; logical = fold continued (alone line) g.leading ∷ g.logical }
-begins line g counts starts = rw (counts, starts) refl
-
--- a line that continues one
-continues : (line : Physical) (g : Grouped) → is_ignored line.text ≡ false → starts_with_space line.text ≡ true
-    → unless_ignored line g ≡ record { leading = line ∷ g.leading; logical = g.logical }
-continues line g counts starts = rw (counts, starts) refl
-
-pub begun_more : (file : List ℕ) (folds : Bool) (repeats : Repeats) (old mid new : Reader) (line : Physical) → is_ignored line.text ≡ false
-    → starts_with_space line.text ≡ false → closed file folds repeats old ≡ Ok mid.entries → IsBegun mid new line
-    → (g : Grouped) → read_on file folds repeats old (unless_ignored line g) ≡ read_on file folds repeats new g
-begun_more file folds repeats old mid new line counts starts closes begun g =
-    ap (read_on file folds repeats old) (begins line g counts starts)
-    ∙ after_closed file folds repeats old (fold continued (alone line) g.leading ∷ g.logical)
-    ∙ ap (λ answer. answer >>= (λ entries. taken_all repeats entries (lines_read file folds (fold continued (alone line) g.leading ∷ g.logical)))) closes
-    ∙ rw (begun.begun, begun.line_is, begun.entries) refl
-
-pub begun_fault : (file : List ℕ) (folds : Bool) (repeats : Repeats) (old : Reader) (line : Physical) (fault : ConfFault) → is_ignored line.text ≡ false
-    → starts_with_space line.text ≡ false → Err fault ≡ as_fault (closed file folds repeats old)
-    → (g : Grouped) → Err fault ≡ as_fault (read_on file folds repeats old (unless_ignored line g))
-begun_fault file folds repeats old line fault counts starts closes g =
-    rw (begins line g counts starts, after_closed file folds repeats old (fold continued (alone line) g.leading ∷ g.logical))
-    (stays_fault (closed file folds repeats old) _ fault closes)
-
-pub continued_more : (file : List ℕ) (folds : Bool) (repeats : Repeats) (old new : Reader) (line : Physical) → is_ignored line.text ≡ false
-    → starts_with_space line.text ≡ true → old.begun ≡ true → IsContinued old new line
-    → (g : Grouped) → read_on file folds repeats old (unless_ignored line g) ≡ read_on file folds repeats new g
-continued_more file folds repeats old new line counts starts begun goes g =
-    ap (read_on file folds repeats old) (continues line g counts starts) ∙ rw (begun, goes.begun ∙ begun, goes.line_is, goes.entries) refl
-
-pub continued_fault : (file : List ℕ) (folds : Bool) (repeats : Repeats) (old : Reader) (line : Physical) → is_ignored line.text ≡ false
-    → starts_with_space line.text ≡ true → old.begun ≡ false
-    → (g : Grouped) → read_on file folds repeats old (unless_ignored line g) ≡ Err (refused file line.number C1 [])
-continued_fault file folds repeats old line counts starts begun g =
-    ap (read_on file folds repeats old) (continues line g counts starts) ∙ rw begun refl
+pub taken_fault : (file : List ℕ) (folds : Bool) (repeats : Repeats) (entries : Entries) (left : List Logical) (fault : ConfFault)
+    → Err fault ≡ as_fault (first_entry file folds left) → Err fault ≡ as_fault (taken_all repeats entries (lines_read file folds left))
+taken_fault file folds repeats entries left fault is = rw (read_first file folds left) (by (first_entry file folds left) is)
+  where
+    by : (answer : Result (Option Entry) Refused) → Err fault ≡ as_fault answer
+        → Err fault ≡ as_fault (taken_all repeats entries (answer >>= (λ first. with_others first (lines_read file folds (drop 1 left)))))
+    by (Ok first) is = cc
+    by (Err refusal) is = cc
 
 -- before the first line
-pub fresh_reads : (file : List ℕ) (folds : Bool) (repeats : Repeats) (reader : Reader) (text : List ℕ) → IsFresh reader
-    → entries_read file folds repeats text ≡ read_on file folds repeats reader (grouped (physical_lines text))
-fresh_reads file folds repeats reader text fresh = rw (fresh.begun, fresh.entries) refl
+pub fresh_reads : (file : List ℕ) (folds : Bool) (repeats : Repeats) (text : List ℕ) (left : List Logical) → lines_in file (grouped (physical_lines text)) ≡ Ok left
+    → entries_read file folds repeats text ≡ taken_all repeats no_entries (lines_read file folds left)
+fresh_reads file folds repeats text left is = ap (λ answer. answer >>= entries_in file folds repeats) is
 
 -- the table of the entries that are read
 pub table_read : (file : List ℕ) (folds : Bool) (repeats : Repeats) (text : List ℕ)

@@ -1,7 +1,7 @@
 //! Pairs in the order of their keys, each key once.
 ghost use Rattle.std.specs.Char.{to_ascii_lowercase};
 ghost use Rattle.std.specs.List.{list_all};
-ghost use Rattle.std.specs.Prelude.{◌≡◌, ◌==◌, ◌++◌, ◌∷◌, ◌+◌, ◌<◌, ◌≤◌, [], None, Some, true, map, length, slice_get, slice_range, slice_set, replicate, IfOk, OnErr, OnOk};
+ghost use Rattle.std.specs.Prelude.{◌≡◌, ◌==◌, ◌++◌, ◌∷◌, ◌+◌, ◌%◌, ◌<◌, ◌≤◌, [], None, Some, true, map, length, slice_get, slice_range, slice_set, replicate, IfOk, OnErr, OnOk};
 ghost use Rattle.pf_base.specs.Clauses.Prefixes.{AddsPrefix};
 ghost use Rattle.pf_base.specs.declared.pair.Pair.{Pair};
 ghost use Rattle.pf_table.specs.Clauses.Keeping as keeping;
@@ -65,13 +65,13 @@ fn hash(key: &[u8]) -> u64
     hasher.finish()
 }
 
-// The bucket of a key.
-fn bucket(key: &[u8], buckets: usize) -> usize
+// The bucket of the keys that have a hash.
+fn bucket(hash: u64, buckets: usize) -> usize
     requires { 0 < buckets }
     ensures within { result < buckets }
-    ensures is { result ≡ keeping.bucket_of buckets key.now }
+    ensures is { result ≡ hash % buckets }
 {
-    (hash(key) % buckets as u64) as usize
+    (hash % buckets as u64) as usize
 }
 
 fn place_at(places: &[Place], i: usize) -> Place
@@ -90,12 +90,13 @@ fn part(bytes: &[u8], start: usize, end: usize) -> &[u8]
     &bytes[start..end]
 }
 
-// Which pair has a key.
-fn index_in(bytes: &[u8], places: &[Place], heads: &[usize], key: &[u8]) -> Option<usize>
-    requires { IsKept bytes.now places.now heads.now }
+// Which pair has a key of this hash.
+fn index_in(bytes: &[u8], places: &[Place], heads: &[usize], hash: u64, key: &[u8]) -> Option<usize>
+    requires kept { IsKept bytes.now places.now heads.now }
+    requires hashed { hash ≡ keeping.hash_of key.now }
     ensures { result ≡ keeping.index_of key.now (keeping.keys_of (keeping.pairs_at bytes.now places.now)) }
 {
-    let mut up_to = heads[bucket(key, heads.len())];
+    let mut up_to = heads[bucket(hash, heads.len())];
     while up_to > 0 {
         let place = place_at(places, up_to - 1);
         if part(bytes, place.key, place.value) == key {
@@ -176,24 +177,27 @@ impl Pairs {
         })
     }
 
-    // Which pair has a key.
-    fn index(&self, key: &[u8]) -> Option<usize>
+    // Which pair has a key of this hash.
+    fn index(&self, hash: u64, key: &[u8]) -> Option<usize>
+        requires { hash ≡ keeping.hash_of key.now }
         ensures { result ≡ keeping.index_of key.now (keeping.keys_of self.now) }
     {
         index_in(
             self.bytes.as_slice(),
             self.places.as_slice(),
             self.heads.as_slice(),
+            hash,
             key,
         )
     }
 
-    // Adds a pair whose key is new.
-    fn push(&mut self, key: &[u8], value: &[u8]) -> Result<(), NoMemory>
-        requires { keeping.index_of key.now (keeping.keys_of self.old) ≡ None }
+    // Adds a pair whose key is new and has this hash.
+    fn push(&mut self, hash: u64, key: &[u8], value: &[u8]) -> Result<(), NoMemory>
+        requires hashed { hash ≡ keeping.hash_of key.now }
+        requires new { keeping.index_of key.now (keeping.keys_of self.old) ≡ None }
         ensures { OnOk result (self.new ≡ self.old ++ record { key = key.now; value = value.now } ∷ []) }
     {
-        let bucket = bucket(key, self.heads.len());
+        let bucket = bucket(hash, self.heads.len());
         let previous = self.heads[bucket];
         let place = add_bytes(&mut self.bytes, key, value, previous)?;
         self.places.push(place)?;
@@ -233,9 +237,10 @@ impl Pairs {
         ensures added { OnOk result (self.new ≡ spec.with_pair repeats self.old (record { key = key.now; value = value.now })) }
         ensures was { IfOk result (λ was. was ≡ spec.has_key self.old key.now) }
     {
-        match self.index(key) {
+        let hash = hash(key);
+        match self.index(hash, key) {
             None => {
-                self.push(key, value)?;
+                self.push(hash, key, value)?;
                 Ok(false)
             }
             Some(i) => {
@@ -268,7 +273,7 @@ impl Pairs {
     fn found(&self, alloc: Global, key: &[u8]) -> Result<Found, NoMemory>
         ensures { IfOk result (λ found. found ≡ tables.found_in self.now key.now) }
     {
-        match self.index(key) {
+        match self.index(hash(key), key) {
             None => Ok(Found::Absent),
             Some(i) => {
                 let (_, value) = self.at(i);

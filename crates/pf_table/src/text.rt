@@ -1,21 +1,16 @@
 //! Text tables (DATABASE_README, texthash).
-ghost use Rattle.std.specs.Prelude.{◌≡◌, ◌≢◌, ◌<◌, [], Ok, Err, Some, length, slice_get, IfErr, IfOk, OnOk};
+ghost use Rattle.std.specs.Prelude.{◌≡◌, ◌<◌, Some, length, slice_get, IfOk, OnOk};
 ghost use Rattle.pf_base.specs.Clauses.Unless.{Unless};
 ghost use Rattle.pf_base.specs.Clauses.Faults.{as_fault};
-ghost use Rattle.pf_base.specs.Text.Lines.{without_return};
-ghost use Rattle.pf_base.specs.Text.Logical.{Grouped, unless_ignored};
-ghost use Rattle.pf_table.specs.Clauses.Reading.{IsBegun, IsContinued, IsFresh, closed, entries_read, read_on, taken};
+ghost use Rattle.pf_table.specs.Clauses.Reading.{entries_read};
 ghost use Rattle.pf_table.specs.Tables.{keyed_meaning};
 ghost use Rattle.pf_table.specs.Text as spec;
 
-use crate::line::{parts_of, write_key};
+use crate::lines::TextLines;
 use crate::pairs::{Pairs, Repeats};
 use crate::table::Table;
 use pf_asks::{Found, Results, TableFault};
-use pf_base::{
-    Bytes, Cause, ConfFault, List, Logical, NoMemory, Pair, first_line, is_ignored, refuse,
-    starts_with_space, without_return,
-};
+use pf_base::{Bytes, ConfFault, List, NoMemory, Pair};
 use std::alloc::Global;
 use std::marker::Model;
 
@@ -55,119 +50,6 @@ impl Entries {
     }
 }
 
-// What is read of the lines so far: their entries, and the logical line that the next physical line may continue, if one is begun.
-// The key of a line is written into `key`.
-#[derive(Drop)]
-pub(crate) struct Reader {
-    entries: Entries,
-    begun: bool,
-    line: Logical,
-    key: Vec<u8>,
-}
-
-// Takes the pair of a logical line, or refuses the line. Its key is written into `key`.
-fn take_logical(
-    alloc: Global,
-    file: &[u8],
-    folds: bool,
-    repeats: Repeats,
-    logical: &Logical,
-    key: &mut Vec<u8>,
-    entries: &mut Entries,
-) -> Result<(), ConfFault>
-    ensures ok { OnOk result (taken repeats entries.old (spec.entry_of file.now folds logical.now) ≡ Ok entries.new) }
-    ensures err { IfErr result (λ fault. fault ≢ ConfFault.NoMemory
-        → Err fault ≡ as_fault (taken repeats entries.old (spec.entry_of file.now folds logical.now))) }
-{
-    match parts_of(logical.text.as_slice()) {
-        Err(reason) => Err(refuse(alloc, file, logical.line, Cause::C11, reason.text())),
-        Ok((quoted, plain, value)) => {
-            write_key(key, folds, quoted, plain)?;
-            entries.take(alloc, repeats, logical.line, key.as_slice(), value)?;
-            Ok(())
-        }
-    }
-}
-
-impl Reader {
-    // Takes the pair of the logical line that is begun, if one is.
-    fn close(
-        &mut self,
-        alloc: Global,
-        file: &[u8],
-        folds: bool,
-        repeats: Repeats,
-    ) -> Result<(), ConfFault>
-        ensures ok { OnOk result (closed file.now folds repeats self.old ≡ Ok self.new.entries) }
-        ensures err { IfErr result (λ fault. fault ≢ ConfFault.NoMemory → Err fault ≡ as_fault (closed file.now folds repeats self.old)) }
-    {
-        if !self.begun {
-            return Ok(());
-        }
-        take_logical(
-            alloc,
-            file,
-            folds,
-            repeats,
-            &self.line,
-            &mut self.key,
-            &mut self.entries,
-        )
-    }
-
-    // Begins a logical line.
-    fn begin(&mut self, number: u64, text: &[u8]) -> Result<(), NoMemory>
-        ensures { OnOk result (IsBegun self.old self.new (record { number = number; text = text.now })) }
-    {
-        self.line.text.clear();
-        self.line.text.extend(text)?;
-        self.line.line = number;
-        self.line.last = number;
-        self.begun = true;
-        Ok(())
-    }
-
-    // Continues the logical line.
-    fn go_on(&mut self, number: u64, text: &[u8]) -> Result<(), NoMemory>
-        ensures { OnOk result (IsContinued self.old self.new (record { number = number; text = text.now })) }
-    {
-        self.line.text.extend(text)?;
-        self.line.last = number;
-        Ok(())
-    }
-
-    // Takes a physical line as it is before its line end.
-    fn take_line(
-        &mut self,
-        alloc: Global,
-        file: &[u8],
-        folds: bool,
-        repeats: Repeats,
-        number: u64,
-        line: &[u8],
-    ) -> Result<(), ConfFault>
-        ensures ok { OnOk result ((g : Grouped) → read_on file.now folds repeats self.old (unless_ignored (record { number = number; text = without_return line.now }) g)
-            ≡ read_on file.now folds repeats self.new g) }
-        ensures err { IfErr result (λ fault. fault ≢ ConfFault.NoMemory → (g : Grouped)
-            → Err fault ≡ as_fault (read_on file.now folds repeats self.old (unless_ignored (record { number = number; text = without_return line.now }) g))) }
-    {
-        let text = without_return(line);
-        if is_ignored(text) {
-            return Ok(());
-        }
-        if !starts_with_space(text) {
-            self.close(alloc, file, folds, repeats)?;
-            self.begin(number, text)?;
-            return Ok(());
-        }
-        if !self.begun {
-            return Err(refuse(alloc, file, number, Cause::C1, &[]));
-        }
-        self.go_on(number, text)?;
-        Ok(())
-    }
-}
-
 /// A text table (DATABASE_README, texthash).
 #[derive(Drop)]
 pub struct TextTable {
@@ -190,23 +72,14 @@ pub struct TextRead {
     pub repeated: List<Repeated>,
 }
 
-// A reader that has read nothing, with room for the pairs of a text.
-fn reader_for(alloc: Global, text: &[u8]) -> Result<Reader, NoMemory>
-    ensures { IfOk result (λ reader. IsFresh reader) }
+// No entries, with room for the pairs of a text.
+fn entries_for(alloc: Global, text: &[u8]) -> Result<Entries, NoMemory>
+    ensures { IfOk result (λ entries. entries ≡ spec.no_entries) }
 {
     let lines = text.iter().filter(|b| **b == b'\n').count();
-    Ok(Reader {
-        entries: Entries {
-            pairs: Pairs::new(alloc, lines, text.len())?,
-            repeated: List::new(alloc),
-        },
-        begun: false,
-        line: Logical {
-            line: 0,
-            last: 0,
-            text: Bytes::new(alloc),
-        },
-        key: Vec::new(alloc),
+    Ok(Entries {
+        pairs: Pairs::new(alloc, lines, text.len())?,
+        repeated: List::new(alloc),
     })
 }
 
@@ -220,22 +93,13 @@ fn entries_of(
 ) -> Result<Entries, ConfFault>
     ensures { Unless result ConfFault.NoMemory (λ r. r ≡ as_fault (entries_read file.now folds repeats text.now)) }
 {
-    let mut reader = reader_for(alloc, text)?;
-    let mut left = text;
-    let mut number = 1;
-    'lines: loop {
-        match first_line(left) {
-            None => {
-                reader.take_line(alloc, file, folds, repeats, number, left)?;
-                reader.close(alloc, file, folds, repeats)?;
-                return Ok(reader.entries);
-            }
-            Some((line, behind)) => {
-                reader.take_line(alloc, file, folds, repeats, number, line)?;
-                left = behind;
-                number += 1;
-            }
+    let mut lines = TextLines::new(alloc, file, text)?;
+    let mut entries = entries_for(alloc, text)?;
+    'turns: loop {
+        if !lines.next(alloc, file, folds)? {
+            return Ok(entries);
         }
+        entries.take(alloc, repeats, lines.number(), lines.key(), lines.value())?;
     }
 }
 

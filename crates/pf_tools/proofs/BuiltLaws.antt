@@ -1,5 +1,5 @@
 -- What is built of a text: its refusals, and what they name.
-use Rattle.std.proofs.Common.{◌≡◌, ◌≢◌, ◌<◌, ◌+◌, ◌++◌, ℕ, zero, suc, Bool, false, List, [], ◌∷◌, Some, Result, Ok, Err, length, take, codes, refl, sym, ap, ◌∙◌, arith}
+use Rattle.std.proofs.Common.{◌≡◌, ◌<◌, ◌+◌, ◌++◌, ℕ, zero, suc, Bool, false, List, [], ◌∷◌, Some, Result, Ok, Err, length, take, codes, refl, sym, ap, arith}
 use Rattle.std.specs.Prelude.{IfErr, get_or, slice_get}
 use Rattle.pf_cdb.proofs.AddingLaws.{large_more}
 use Rattle.pf_base.specs.Clauses.Faults.{as_fault}
@@ -18,14 +18,13 @@ use Rattle.pf_maps.proofs.OpenLaws.{not_memory, ok_said, refusal_said, says_next
 use Rattle.pf_maps.proofs.SizeLaws.{Small, small_fault, small_text}
 use Rattle.pf_maps.specs.Clauses.Opened.{Opens, Says, held_as, is_of_size, names_size}
 use Rattle.pf_maps.specs.Opening.{Unopened, refusing}
-use Rattle.pf_maps.specs.Opening.{Unopened as unopened}
 use Rattle.pf_maps.specs.declared.opening.OpenFault.{OpenFault}
 use Rattle.pf_maps.specs.declared.opening.OpenFault.TheVariants as open_fault
 use Rattle.pf_table.proofs.PlaceLemmas.{take_pushed}
 use Rattle.pf_table.specs.Text.{text_read}
 use Rattle.pf_table.specs.declared.pairs.Repeats.{Repeats}
 use Rattle.pf_table.specs.declared.text.TextRead.{TextRead}
-use Rattle.pf_tools.specs.Map.Built.{cdb_name, cdb_or_refused, read_built, text_built, text_name, warnings_of}
+use Rattle.pf_tools.specs.Map.Built.{cdb_name, cdb_or_refused, read_built, text_built, text_name}
 use Rattle.pf_tools.specs.declared.map.build.Built.{Built}
 
 -- what was made of a text that was read

@@ -7,7 +7,6 @@ use Rattle.std.proofs.lemmas.Option.{slice_get-get_or}
 use Rattle.std.specs.List.{find, position, position_or_len, slice_get}
 use Rattle.std.specs.Option.{option_map_or}
 use Rattle.std.specs.Str.{bytes_eq}
-use Rattle.pf_base.specs.Meanings.{Source}
 use Rattle.pf_base.specs.declared.meaning.Meaning.TheVariants.{Is}
 use Rattle.pf_catalogue.specs.Catalogue.{Row, catalogue, place_of, row, row_at}
 use Rattle.pf_catalogue.specs.declared.kind.Kind.TheVariants.{Text}

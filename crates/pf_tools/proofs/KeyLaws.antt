@@ -1,6 +1,5 @@
 -- The keys of an input that comes in pieces.
 use Rattle.std.proofs.Common.{◌≡◌, ℕ, ◌+◌, ◌<◌, ◌≤◌, Bool, true, false, ◌||◌, List, [], ◌∷◌, ◌++◌, Result, Ok, Err, inl, inr, refl, sym, ap, subst, ◌∙◌, map, arith, append_assoc, append-nil, length-append}
-use Rattle.std.proofs.Math.Bool.{or_assoc}
 use Rattle.std.proofs.lemmas.Grind.{flat_map-append}
 use Rattle.std.proofs.lemmas.List.{map-append}
 use Rattle.std.proofs.lemmas.List.Folds.{list_any-append}
@@ -9,13 +8,12 @@ use Rattle.std.specs.Prelude.{is_some}
 use Rattle.pf_base.proofs.KnownLemmas.{appended_more, appended_none, takes_more, takes_none}
 use Rattle.pf_base.proofs.LineEnds.{lines-append, lines-nil, rest-append, rest-nil, rest_of_none}
 use Rattle.pf_base.specs.Clauses.Pieces.{onto_line, unless_line}
-use Rattle.pf_base.specs.Outside.Known.{failed_input, found_end}
+use Rattle.pf_base.specs.Outside.Known.{found_end}
 use Rattle.pf_base.specs.Outside.Objects.{Sinks, Streams, appended, out_text}
 use Rattle.pf_base.specs.Text.Lines.{lines, rest, without_return}
-use Rattle.pf_base.specs.declared.outside.texts.SinkFault.{SinkFault}
 use Rattle.pf_asks.specs.Looking.{Meaning}
-use Rattle.pf_tools.specs.Clauses.Keys.{ComesDownTo, IsEnd, IsTurn, Passed, Stops, TakesKeys, TakesPiece, keys_ended, partial_after, progress_of}
-use Rattle.pf_tools.specs.Map.Keys.{Answers, AnswersBudget, AnswersShort, CutInPiece, answered, keys_of, last_key, whole_keys}
+use Rattle.pf_tools.specs.Clauses.Keys.{ComesDownTo, IsEnd, IsTurn, Passed, TakesKeys, TakesPiece, keys_ended, partial_after, progress_of}
+use Rattle.pf_tools.specs.Map.Keys.{Answers, AnswersBudget, answered, last_key, whole_keys}
 use Rattle.pf_tools.specs.Map.Lines.{has_value, key_line, key_lines, value_at}
 use Rattle.pf_tools.specs.declared.map.keys.Ended.{Ended}
 use Rattle.pf_tools.specs.declared.map.keys.Ended.TheVariants as ended

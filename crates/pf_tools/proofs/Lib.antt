@@ -9,4 +9,5 @@ pub mod ReportLaws
 pub mod Rows
 pub mod RunLaws
 pub mod StatusLaws
+pub mod StreamLaws
 pub mod TableLaws

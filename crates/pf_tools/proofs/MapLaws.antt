@@ -2,11 +2,11 @@
 use Rattle.std.proofs.Common.{◌≡◌, ℕ, Bool, true, false, List, [], ◌∷◌, Option, None, Some, Result, Ok, Err, inl, inr, refl, sym, ap, subst, ◌∙◌}
 use Rattle.std.specs.Option.{option_map}
 use Rattle.std.specs.Prelude.{⊤, ◌⊎◌, ◌≢◌, ◌||◌, is_some, slice_get}
-use Rattle.pf_base.proofs.KnownLemmas.{stops_first, wrote_none}
+use Rattle.pf_base.proofs.KnownLemmas.{wrote_none}
 use Rattle.pf_base.proofs.StatusLemmas.{counts_same, kept_causes, none_failed, none_stopped, said_causes, said_record, spoken, starved_causes, stops_causes, stops_record}
 use Rattle.pf_base.specs.Outside.Counts.{counted}
 use Rattle.pf_base.specs.Outside.FileList.{with_file}
-use Rattle.pf_base.specs.Outside.Known.{Tree, failed_tree, replaced, wrote}
+use Rattle.pf_base.specs.Outside.Known.{Tree, failed_tree, replaced}
 use Rattle.pf_base.specs.Outside.Objects.{Objects, Says, Sinks, StopsBy, Streams, log_text, out_text, sink_status, status_of}
 use Rattle.pf_base.specs.Outside.Statuses.{HasCauses, NoneRose, counts_of, is_among}
 use Rattle.pf_base.specs.Results.{◌>>=◌}
@@ -32,8 +32,8 @@ use Rattle.pf_tools.specs.Clauses.Opened.{Ends, IsPut, SaysUnopened, value_in}
 use Rattle.pf_tools.specs.Map.Built.{built_in, cdb_name}
 use Rattle.pf_tools.specs.Map.Course.{Counts, Course, IsStopped, IsTask, Leaves, Took, course_status, ended_status, keys_status, names_happening, value_status}
 use Rattle.pf_tools.specs.Map.Course.{Course as course}
-use Rattle.pf_tools.specs.Map.Keys.{Answers, answered, keys_of, last_key, whole_keys}
-use Rattle.pf_tools.specs.Map.Lines.{key_lines, pair_lines, value_at, value_line}
+use Rattle.pf_tools.specs.Map.Keys.{Answers, answered, keys_of, whole_keys}
+use Rattle.pf_tools.specs.Map.Lines.{pair_lines, value_at, value_line}
 use Rattle.pf_tools.specs.Map.Run.{PostmapRun, statuses, statuses_by}
 use Rattle.pf_tools.specs.Map.Said.{Happening, Task, is_of, is_unread, read_at_first, specs_of, table_in, task_by, task_in}
 use Rattle.pf_tools.specs.Map.Said.{Task as task}

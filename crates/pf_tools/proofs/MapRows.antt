@@ -1,14 +1,14 @@
 -- Worked examples of what postmap prints, each by computation.
-use Rattle.std.proofs.Common.{◌≡◌, ℕ, true, false, List, [], ◌∷◌, map, Option, None, Some, Ok, Err, refl, codes}
+use Rattle.std.proofs.Common.{◌≡◌, true, false, List, [], ◌∷◌, map, None, Some, Ok, Err, refl, codes}
 use Rattle.std.specs.Fmt.{digits}
 use Rattle.pf_base.specs.Text.Lines.{lines, rest}
 use Rattle.pf_base.specs.Text.Printing.{printed_line}
 use Rattle.pf_base.specs.declared.pair.Pair.{Pair}
 use Rattle.pf_asks.specs.Looking.{Meaning}
-use Rattle.pf_table.specs.Tables.{fail_meaning, keyed_meaning, static_meaning}
+use Rattle.pf_table.specs.Tables.{fail_meaning, keyed_meaning}
 use Rattle.pf_table.specs.declared.text.Repeated.{Repeated}
 use Rattle.pf_tools.specs.Map.Built.{cdb_name, text_name, warnings_of}
-use Rattle.pf_tools.specs.Map.Course.{ended_status, keys_status, value_status}
+use Rattle.pf_tools.specs.Map.Course.{keys_status, value_status}
 use Rattle.pf_tools.specs.Map.Keys.{keys_of, whole_keys}
 use Rattle.pf_tools.specs.Map.Lines.{has_value, key_lines, pair_lines, value_at, value_line}
 use Rattle.pf_tools.specs.Map.Said.{text_of}

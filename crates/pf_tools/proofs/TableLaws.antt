@@ -1,5 +1,5 @@
 -- The value that an opened table has for a key.
-use Rattle.std.proofs.Common.{◌≡◌, ℕ, true, false, List, Option, None, Some, Result, Ok, Err, refl, sym, ap, ◌∙◌}
+use Rattle.std.proofs.Common.{◌≡◌, ℕ, true, false, List, Option, None, Some, Ok, Err, refl, sym, ap, ◌∙◌}
 use Rattle.std.proofs.lemmas.Bool.{false≢true}
 use Rattle.std.specs.Option.{ok_or, unwrap_or}
 use Rattle.pf_asks.specs.Clauses.Held.{Answered, is_meant_or_failure}

@@ -3,3 +3,4 @@ pub mod Keys
 pub mod Opened
 pub mod Ordering
 pub mod Reports
+pub mod Streaming

@@ -3,7 +3,7 @@ use Rattle.std.specs.Prelude.{◌≡◌, ◌||◌, ◌<◌, ◌≤◌, ◌++◌,
 use Rattle.std.specs.Io.KnownBytes.{IsAtEnd}
 use Rattle.pf_base.specs.Clauses.Pieces.{onto_line, unless_line}
 use Rattle.pf_base.specs.Outside.Known.{Takes, failed_input, found_end}
-use Rattle.pf_base.specs.Outside.Objects.{Sinks, Streams, StopsBy, appended, out_text}
+use Rattle.pf_base.specs.Outside.Objects.{Sinks, Streams, StopsBy, out_text}
 use Rattle.pf_base.specs.Text.Lines.{lines, rest, without_return}
 use Rattle.pf_base.specs.declared.outside.texts.SinkFault.{SinkFault}
 use Rattle.pf_asks.specs.Looking.{Meaning}

@@ -1,7 +1,6 @@
 -- What the code gathers before it writes. Words of the code's contracts.
-use Rattle.std.specs.Prelude.{◌≡◌, ◌⊎◌, ℕ, List, Result, Ok, Err}
+use Rattle.std.specs.Prelude.{◌≡◌, ◌⊎◌, ℕ, List}
 use Rattle.pf_base.specs.Outside.Known.{Tree}
-use Rattle.pf_base.specs.declared.refused.Refused.{Refused}
 use Rattle.pf_maincf.specs.File.{conf_name}
 use Rattle.pf_tools.specs.Course.{Course, Courses, Leaves, course_status, texts_of}
 use Rattle.pf_tools.specs.Course.{Course as course}

@@ -1,5 +1,5 @@
 //! A cdb that is built of a text.
-ghost use Rattle.std.specs.Prelude.{◌≡◌, ◌++◌, ◌==◌, ◌<◌, Err, true, false, length, IfErr, IfOk, OnOk};
+ghost use Rattle.std.specs.Prelude.{◌≡◌, ◌≢◌, ◌++◌, ◌==◌, ◌<◌, Bool, Ok, Err, true, false, length, IfErr, IfOk, IfSome, OnOk};
 ghost use Rattle.std.specs.List.{position};
 ghost use Rattle.std.specs.Str.{IsUtf8};
 ghost use Rattle.pf_base.specs.Clauses.Faults.{as_fault};
@@ -7,12 +7,14 @@ ghost use Rattle.pf_base.specs.Clauses.Unless.{Unless};
 ghost use Rattle.pf_base.specs.Text.Ascii as ascii;
 ghost use Rattle.pf_cdb.specs.Written.{written, written_file};
 ghost use Rattle.pf_maps.specs.Clauses.Opened.{Opens, held_as, names_size};
+ghost use Rattle.pf_table.specs.declared.pairs.Repeats.{Repeats};
+ghost use Rattle.pf_tools.specs.Clauses.Streaming.{line_pairs};
 ghost use Rattle.pf_tools.specs.Map.Built as spec;
 
 use pf_base::{Bytes, Cause, ConfFault, Files, NoMemory, add_line, decimal, refuse};
 use pf_cdb::{WriteFault, Writer};
 use pf_maps::{OpenFault, file_text};
-use pf_table::{Repeated, Repeats, TextRead, TextTable};
+use pf_table::{Repeated, Repeats, TextLines, TextRead, TextTable};
 use pf_words::MapWords;
 use std::alloc::Global;
 
@@ -122,7 +124,7 @@ fn written_bytes(alloc: Global, text: &TextTable) -> Result<Bytes, WriteFault>
 {
     let writer = with_pairs(alloc, text)?;
     let file = writer.finish(alloc)?;
-    Ok(file)
+    Ok(file.bytes)
 }
 
 // The bytes of a cdb of this name.
@@ -163,19 +165,94 @@ fn read_built(
     Ok(Built { bytes, warnings })
 }
 
-// What is built of a text.
+// What is built of the table of a text.
+fn table_built(
+    alloc: Global,
+    words: &MapWords,
+    repeats: Repeats,
+    warned: bool,
+    text: Bytes,
+) -> Result<Built, ConfFault>
+    ensures { Unless result ConfFault.NoMemory (λ r. r ≡ as_fault (spec.text_built words.now.table words.now.folded repeats warned text)) }
+{
+    let name = text_name(words.table.as_slice());
+    let read = TextTable::read(alloc, name, text.as_slice(), words.folded, repeats)?;
+    drop(text);
+    read_built(alloc, &words.table, warned, &read)
+}
+
+// A cdb to which the pairs of the lines of a text are added as they come; None where it would be too large.
+fn with_lines(
+    alloc: Global,
+    file: &[u8],
+    folds: bool,
+    text: &[u8],
+) -> Result<Option<Writer>, ConfFault>
+    ensures all { IfOk result (λ writer. IfSome writer (λ pairs. line_pairs file.now folds text.now ≡ Ok pairs)) }
+    ensures err { IfErr result (λ fault. fault ≢ ConfFault.NoMemory → Err fault ≡ as_fault (line_pairs file.now folds text.now)) }
+{
+    let mut lines = TextLines::new(alloc, file, text)?;
+    let mut writer = Writer::new(alloc)?;
+    'turns: loop {
+        if !lines.next(alloc, file, folds)? {
+            return Ok(Some(writer));
+        }
+        match writer.add(lines.key(), lines.value()) {
+            Ok(more) => writer = more,
+            Err(WriteFault::TooLarge) => return Ok(None),
+            Err(WriteFault::NoMemory) => return Err(ConfFault::NoMemory),
+        }
+    }
+}
+
+// What is built of a text line by line; None where a key is repeated, or the cdb of all lines would be too large.
+fn lines_built(
+    alloc: Global,
+    table: &[u8],
+    folds: bool,
+    text: &[u8],
+) -> Result<Option<Built>, ConfFault>
+    ensures built { IfOk result (λ built. IfSome built (λ built. (repeats : Repeats) (warned : Bool)
+        → spec.text_built table.now folds repeats warned text.now ≡ Ok built)) }
+    ensures err { IfErr result (λ fault. fault ≢ ConfFault.NoMemory → (repeats : Repeats) (warned : Bool)
+        → Err fault ≡ as_fault (spec.text_built table.now folds repeats warned text.now)) }
+{
+    match with_lines(alloc, text_name(table), folds, text)? {
+        None => Ok(None),
+        Some(writer) => {
+            let written = writer.finish(alloc)?;
+            if written.repeats {
+                return Ok(None);
+            }
+            Ok(Some(Built {
+                bytes: written.bytes,
+                warnings: Bytes::new(alloc),
+            }))
+        }
+    }
+}
+
+// What is built of a text. Where the last of repeated keys counts, or one is repeated, the table is read first.
 fn text_built(
     alloc: Global,
     words: &MapWords,
     repeats: Repeats,
     warned: bool,
-    text: &[u8],
+    text: Bytes,
 ) -> Result<Built, ConfFault>
-    ensures { Unless result ConfFault.NoMemory (λ r. r ≡ as_fault (spec.text_built words.now.table words.now.folded repeats warned text.now)) }
+    ensures { Unless result ConfFault.NoMemory (λ r. r ≡ as_fault (spec.text_built words.now.table words.now.folded repeats warned text)) }
 {
-    let name = text_name(words.table.as_slice());
-    let read = TextTable::read(alloc, name, text, words.folded, repeats)?;
-    read_built(alloc, &words.table, warned, &read)
+    if repeats == Repeats::First
+        && let Some(built) = lines_built(
+            alloc,
+            words.table.as_slice(),
+            words.folded,
+            text.as_slice(),
+        )?
+    {
+        return Ok(built);
+    }
+    table_built(alloc, words, repeats, warned, text)
 }
 
 // What was made without a file.
@@ -203,5 +280,5 @@ pub(crate) fn build<F: Files>(
 {
     let name = text_name(words.table.as_slice());
     let text = file_text(alloc, b"words", 0, name, files)?;
-    held(text_built(alloc, words, repeats, warned, text.as_slice()))
+    held(text_built(alloc, words, repeats, warned, text))
 }

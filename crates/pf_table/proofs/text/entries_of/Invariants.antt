@@ -1,14 +1,11 @@
-use Rattle.std.proofs.Common.{◌≡◌, ◌+◌, ◌≤◌, ◌++◌, ◌∷◌, [], length}
-use Rattle.pf_base.specs.Text.Lines.{lines, rest}
-use Rattle.pf_base.specs.Text.Logical.{grouped, numbered}
-use Rattle.pf_table.specs.Clauses.Reading.{entries_read, read_on}
+use Rattle.std.proofs.Common.{◌≡◌, length}
+use Rattle.pf_table.proofs.ReadingLemmas.{taken_all}
+use Rattle.pf_table.specs.Clauses.Reading.{entries_read}
+use Rattle.pf_table.specs.Text.{lines_read}
 use Rattle.pf_table.proofs.text.entries_of.Given as goal
 
-abbrev pub invariant-lines : goal.invariant-lines
-invariant-lines l =
-    (entries_read l.file l.folds l.repeats l.text
-    ≡ read_on l.file l.folds l.repeats l.reader (grouped (numbered l.number (lines l.left ++ rest l.left ∷ []))))
-    × (l.number + length l.left ≤ length l.text + 1)
+abbrev pub invariant-turns : goal.invariant-turns
+invariant-turns l = entries_read l.file l.folds l.repeats l.text ≡ taken_all l.repeats l.entries (lines_read l.file l.folds l.lines.left)
 
-abbrev pub decreases-lines : goal.decreases-lines
-decreases-lines l = length l.left
+abbrev pub decreases-turns : goal.decreases-turns
+decreases-turns l = length l.lines.left

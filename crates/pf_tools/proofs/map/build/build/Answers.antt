@@ -14,12 +14,10 @@ returns-in_err-text-clause-opens g c =
 pub returns-clause-opens : goal.returns-clause-opens
 returns-clause-opens g c =
     let opens = rw c.as_slice.ensures at (rw c.text_name-name.ensures at c.in_ok-text.ensures.opens) in
-    let built = rw c.as_slice-2.ensures at c.text_built.ensures in
     rw c.held.ensures
-    (opens_made (λ text. text_built c.args.words.now.table c.args.words.now.folded c.args.repeats c.args.warned text) c.in_ok-text.text c.text_built.result opens built)
+    (opens_made (λ text. text_built c.args.words.now.table c.args.words.now.folded c.args.repeats c.args.warned text) c.in_ok-text.text c.text_built.result opens c.text_built.ensures)
 
 pub returns-clause-small : goal.returns-clause-small
 returns-clause-small g c =
-    let built = rw c.as_slice-2.ensures at c.text_built.ensures in
     rw c.held.ensures
-    (held_small c.args.words.now.table c.args.words.now.folded c.args.repeats c.args.warned c.in_ok-text.text c.text_built.result built)
+    (held_small c.args.words.now.table c.args.words.now.folded c.args.repeats c.args.warned c.in_ok-text.text c.text_built.result c.text_built.ensures)

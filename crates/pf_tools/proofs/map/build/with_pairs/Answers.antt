@@ -1,4 +1,4 @@
-use Rattle.std.proofs.Common.{◌≡◌, Err, refl}
+use Rattle.std.proofs.Common.{◌≡◌, Err}
 use Rattle.std.proofs.lemmas.Result.{err_from_is_err_and}
 use Rattle.pf_cdb.specs.declared.fault.WriteFault.TheVariants.{TooLarge}
 use Rattle.pf_tools.proofs.BuiltLaws.{large_at}
