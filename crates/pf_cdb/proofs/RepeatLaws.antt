@@ -18,8 +18,9 @@ use Rattle.pf_cdb.proofs.RangeLaws.{contains_filter}
 use Rattle.pf_cdb.proofs.RecordLaws.{IsPlaced, RecordsStand, first_record, other_records, pairs_read, places_above}
 use Rattle.pf_cdb.proofs.WrittenLaws.{Fits}
 use Rattle.pf_cdb.proofs.WrittenSoundLaws.{placed_written, records_written}
+use Rattle.pf_cdb.specs.Clauses.Searching.{NamesRecord}
 use Rattle.pf_cdb.specs.Held.{is_held}
-use Rattle.pf_cdb.specs.Layout.{key_at, key_length, pair_at}
+use Rattle.pf_cdb.specs.Layout.{key_at, pair_at}
 use Rattle.pf_cdb.specs.Written.{HasDistinctKeys, by_table, is_of_table, of_table, placed, record_size, written}
 use Rattle.pf_cdb.specs.declared.layout.Slot.{Slot}
 
@@ -123,14 +124,14 @@ pub tables_all : (P : Slot → Type 0) (slots : List Slot) → All P slots → A
 tables_all P slots all t d low =
     subst (All P) (sym (get_by_table slots t d (omega (arith, length_by_table slots)))) (All-filter (is_of_table t) P slots all)
 
--- the records that the slots of a written file name lie in it
-pub tables_within : (entries : List Pair) (file : List ℕ) (slots : List Slot) (tables : List (List Slot)) → Fits entries → file ≡ written entries
-    → slots ≡ placed 2048 entries → tables ≡ by_table slots → All (All (λ slot. slot.at + 8 + key_length file slot.at ≤ length file)) tables
-tables_within entries file slots tables fits is are by =
+-- the slots of a written file name its records
+pub tables_named : (entries : List Pair) (file : List ℕ) (slots : List Slot) (tables : List (List Slot)) → Fits entries → file ≡ written entries
+    → slots ≡ placed 2048 entries → tables ≡ by_table slots → All (All (NamesRecord file)) tables
+tables_named entries file slots tables fits is are by =
     rw (is, by, are)
-    (tables_all (λ slot. slot.at + 8 + key_length (written entries) slot.at ≤ length (written entries)) (placed 2048 entries)
-    (All-weaker (IsPlaced (written entries)) (λ slot. slot.at + 8 + key_length (written entries) slot.at ≤ length (written entries))
-    (λ slot placed. omega (arith, placed.whole)) (placed 2048 entries) (placed_written entries fits)))
+    (tables_all (NamesRecord (written entries)) (placed 2048 entries)
+    (All-weaker (IsPlaced (written entries)) (NamesRecord (written entries))
+    (λ slot placed. record { within = omega (arith, placed.whole); hash = sym placed.hash }) (placed 2048 entries) (placed_written entries fits)))
 
 -- lists that are kept in others
 module _ {V : Type 0} (f : V → List Slot) (vs : List V) (v : V) (i : ℕ) where

@@ -12,8 +12,8 @@ use crate::search::find_record;
 use pf_base::{Bytes, List, NoMemory, Pair};
 use std::alloc::Global;
 
-/// Whether the record at a place is held for its own key.
-pub(crate) fn is_held(file: &[u8], at: u32) -> bool
+// Whether the record at a place is held for its own key.
+fn is_held(file: &[u8], at: u32) -> bool
     requires sound { IsSound file.now }
     requires within { at + 8 + key_length file.now at ≤ length file.now }
     ensures { result ≡ held.is_held file.now at }

@@ -1,15 +1,15 @@
-use Rattle.std.proofs.Common.{◌+◌, ◌≤◌, length, subst, sym, arith}
+use Rattle.std.proofs.Common.{subst, sym, arith}
 use Rattle.std.specs.List.{All, list_all}
 use Rattle.pf_cdb.proofs.RepeatLaws.{all_at, fails_at, passes_all}
+use Rattle.pf_cdb.specs.Clauses.Searching.{NamesRecord}
 use Rattle.pf_cdb.specs.Held.{is_held}
-use Rattle.pf_cdb.specs.Layout.{key_length}
 use Rattle.pf_cdb.proofs.repeats.all_held.Goals as goal
 
-pub are_held-requires-clause-within : goal.are_held-requires-clause-within
-are_held-requires-clause-within c =
-    subst (All (λ slot. slot.at + 8 + key_length c.args.file.now slot.at ≤ length c.args.file.now)) (sym c.as_slice.ensures.value)
-    (all_at (λ v. v.items) c.args.buckets.now c.bucket-item.result c.loop-bucket.bucket-index
-    (All (λ slot. slot.at + 8 + key_length c.args.file.now slot.at ≤ length c.args.file.now)) c.requires.within c.loop-bucket-test.true c.bucket-item.is)
+pub are_held-requires-clause-named : goal.are_held-requires-clause-named
+are_held-requires-clause-named c =
+    subst (All (NamesRecord c.args.file.now)) (sym c.as_slice.ensures.value)
+    (all_at (λ v. v.items) c.args.buckets.now c.bucket-item.result c.loop-bucket.bucket-index (All (NamesRecord c.args.file.now)) c.requires.named
+    c.loop-bucket-test.true c.bucket-item.is)
 
 pub returns-then-not-are_held : goal.returns-then-not-are_held
 returns-then-not-are_held c =

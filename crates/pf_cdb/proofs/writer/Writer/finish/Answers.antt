@@ -4,7 +4,7 @@ use Rattle.std.specs.Str.{bytes_eq}
 use Rattle.pf_cdb.proofs.AddingLaws.{size_prefix}
 use Rattle.pf_cdb.proofs.DamageLaws.{none_from_sound}
 use Rattle.pf_cdb.proofs.ElementLaws.{elements_written, firsts_all}
-use Rattle.pf_cdb.proofs.RepeatLaws.{from_not, not_from, says_repeated, tables_within}
+use Rattle.pf_cdb.proofs.RepeatLaws.{from_not, not_from, says_repeated, tables_named}
 use Rattle.pf_cdb.proofs.WrittenSoundLaws.{found_written, sound_written}
 use Rattle.pf_cdb.specs.Clauses.Gathered.{slot_lists}
 use Rattle.pf_cdb.specs.Damaged.{first_damage}
@@ -23,11 +23,11 @@ all_held-repeats-requires-clause-sound c =
     omega (arith, size_prefix c.self.inside.file c.self.inside.slots.items c.self.invariant, ap (λ p. length (written p)) c.self.view_is, c.self.invariant.fits) in
     subst IsSound (sym (c.as_slice.ensures ∙ c.in_ok-bytes.ensures.whole ∙ ap written c.self.view_is)) (sound_written c.args.self fits)
 
-pub all_held-repeats-requires-clause-within : goal.all_held-repeats-requires-clause-within
-all_held-repeats-requires-clause-within c =
+pub all_held-repeats-requires-clause-named : goal.all_held-repeats-requires-clause-named
+all_held-repeats-requires-clause-named c =
     let fits : length (written c.args.self) ≤ 67108864 =
     omega (arith, size_prefix c.self.inside.file c.self.inside.slots.items c.self.invariant, ap (λ p. length (written p)) c.self.view_is, c.self.invariant.fits) in
-    tables_within c.args.self c.as_slice.result.now c.self.inside.slots.items (slot_lists c.as_slice-2.result.now) fits
+    tables_named c.args.self c.as_slice.result.now c.self.inside.slots.items (slot_lists c.as_slice-2.result.now) fits
     (c.as_slice.ensures ∙ c.in_ok-bytes.ensures.whole ∙ ap written c.self.view_is)
     (c.self.invariant.all ∙ ap (placed 2048) c.self.view_is)
     (ap slot_lists c.as_slice-2.ensures.value ∙ c.in_ok-bytes.ensures.buckets)
