@@ -1,9 +1,10 @@
 -- What is printed of an address is a spelling of it.
 use Rattle.std.proofs.Common.{◌≡◌, ℕ, Bool, List, [], ◌∷◌, length, true, false, refl, sym, ap, append-nil, arith, lt-ltb, ltb-true}
-use Rattle.std.specs.Prelude.{◌==◌, ◌&&◌, nat_eq, nat_lt}
-use Rattle.std.specs.List.{flat_map, list_all}
-use Rattle.std.proofs.lemmas.Bool.{and_parts, eqb-false, or_from}
+use Rattle.std.specs.Prelude.{◌==◌, ◌&&◌, ◌||◌, nat_eq, nat_lt}
+use Rattle.std.specs.List.{flat_map, list_all, list_any}
+use Rattle.std.proofs.lemmas.Bool.{and_parts, eqb-false, or_from, or_parts}
 use Rattle.pf_addr.specs.Grammar.{IsLocalPart, IsMailbox, IsSpelling, plain, quoted, with_domain, alone, bare, is_lone_byte, is_plain_byte}
+use Rattle.pf_addr.specs.Clauses.Quoted.{unquoted}
 use Rattle.pf_addr.specs.Printed.{IsDomainOrNone, missing, given, escaped, is_atom_byte, printed, printed_domain, printed_local, read_again}
 use Rattle.pf_addr.specs.declared.address.Address.{Address}
 use Rattle.pf_addr.proofs.ByteLemmas.{atom_is_lone, lone_is_plain, other}
@@ -34,6 +35,15 @@ unfolding printed_local
 bare_printed local some all =
     let first : nat_lt 0 (length local) ≡ true = lt-ltb 0 (length local) (let ne = eqb-false _ 0 some in omega (arith, ne)) in
     rw (first, all) (sym (atoms_escaped local all))
+
+-- content without quotes and backslashes is printed as it is
+pub as_it_is : (content : List ℕ) → list_any (λ b. b == 34 || b == 92) content ≡ false → flat_map escaped (unquoted false content) ≡ content
+unfolding escaped
+as_it_is [] none = refl
+as_it_is (b ∷ content) none =
+    let parts = or_parts (b == 34 || b == 92) (list_any (λ b. b == 34 || b == 92) content) none in
+    let other = or_parts (b == 34) (b == 92) parts.0 in
+    rw (other.1, other.0, other.1) (ap (λ l. b ∷ l) (as_it_is content parts.1))
 
 local_spelled : (is_byte : ℕ → Bool) (local : List ℕ) → ((b : ℕ) → is_atom_byte b ≡ true → is_byte b ≡ true) → IsLocalPart is_byte (printed_local local) local
 unfolding printed_local

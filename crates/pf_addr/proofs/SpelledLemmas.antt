@@ -1,5 +1,5 @@
 -- What the grammar says as a function is what it says as a relation.
-use Rattle.std.proofs.Common.{◌≡◌, ℕ, zero, suc, ◌+◌, ◌<◌, ◌≤◌, List, [], ◌∷◌, ◌++◌, Option, Some, None, length, take, drop, true, false, refl, sym, ap, ◌∙◌, append_assoc, arith, length-append, length-drop, length-take-le, ⊎_elim}
+use Rattle.std.proofs.Common.{◌≡◌, ℕ, zero, suc, ◌+◌, ◌<◌, ◌≤◌, List, [], ◌∷◌, ◌++◌, Option, Some, length, take, drop, true, refl, sym, ap, ◌∙◌, append_assoc, arith, length-append, length-take-le, ⊎_elim}
 use Rattle.std.specs.Prelude.{is_some}
 use Rattle.std.specs.List.{prefix_len, range_with_len}
 use Rattle.std.specs.Option.{option_map, option_or}
@@ -8,7 +8,7 @@ use Rattle.std.proofs.lemmas.List.{drop_at, take-append-drop, take_at}
 use Rattle.std.proofs.lemmas.List.Sums.{prefix_len-le-length}
 use Rattle.pf_base.specs.Text.Space.{is_space, without_leading_space}
 use Rattle.pf_addr.specs.Clauses.Reading.{reading}
-use Rattle.pf_addr.specs.Grammar.{IsMailbox, IsPath, IsSpelling, Reads, bare as bare_path, bracketed as bracketed_path, null, none, domains, is_end}
+use Rattle.pf_addr.specs.Grammar.{IsPath, IsSpelling, Reads, bare as bare_path, bracketed as bracketed_path, null, none, domains, is_end}
 use Rattle.pf_addr.specs.Spelled.{bare, between, bracketed, first_path, first_some, mailbox, path, path_of, path_to, routed_mailbox}
 use Rattle.pf_addr.specs.declared.address.Address.{Address}
 use Rattle.pf_addr.specs.declared.address.Path.{Path}

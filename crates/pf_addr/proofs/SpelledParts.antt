@@ -1,9 +1,9 @@
 -- The parts of a path that the function of the grammar reads are those of the relation: local parts, domains, mailboxes and routes.
-use Rattle.std.proofs.Common.{◌≡◌, ℕ, suc, ◌+◌, ◌-◌, ◌<◌, ◌≤◌, Bool, eqb, List, [], ◌∷◌, ◌++◌, Option, Some, None, length, get_or, take, drop, true, false, refl, sym, ap, ◌∙◌, append_assoc, arith, length-append, length-drop, length-take, lt-ltb, ltb-true, le-leb, leb-true}
+use Rattle.std.proofs.Common.{◌≡◌, ℕ, ◌+◌, ◌-◌, ◌<◌, Bool, eqb, List, [], ◌∷◌, ◌++◌, Option, Some, None, length, get_or, take, true, false, refl, sym, ap, ◌∙◌, append_assoc, arith, length-append, length-drop, length-take, lt-ltb, ltb-true, le-leb, leb-true}
 use Rattle.std.specs.Prelude.{◌==◌, ◌&&◌, ◌||◌, is_some, not, nat_le, nat_lt, reverse}
-use Rattle.std.specs.List.{after_first, after_last, before_first, before_last, list_all, position_or_len, prefix_len, suffix_len}
+use Rattle.std.specs.List.{after_first, after_last, before_first, before_last, list_all, position_or_len, prefix_len}
 use Rattle.std.specs.Option.{option_map, option_or}
-use Rattle.std.proofs.lemmas.Bool.{and_from, and_parts, eqb-true, not-false, or_from, or_left, or_parts, or_right}
+use Rattle.std.proofs.lemmas.Bool.{and_from, and_parts, eqb-true, not-false, or_from, or_parts, or_right}
 use Rattle.std.proofs.lemmas.List.{drop_more, get_or-reverse, get_or_at, length-reverse, reverse-append, take-append-drop, take_all, take_at, take_more}
 use Rattle.std.proofs.lemmas.List.Folds.{list_all-append}
 use Rattle.std.proofs.lemmas.List.Sums.{passes_at_first, prefix_len_stops}

@@ -9,7 +9,7 @@ ghost use Rattle.pf_addr.specs.Printed as spec;
 
 use crate::address::{Address, AddressRef};
 use crate::classes::is_atom_byte;
-use crate::quoted::{means_nothing, takes_next};
+use crate::quoted::{has_pairs, means_nothing, takes_next};
 use pf_base::{Bytes, NoMemory, add_printed};
 use std::alloc::Global;
 
@@ -108,6 +108,9 @@ fn add_escaped(b: u8, text: &mut Bytes) -> Result<(), NoMemory>
 fn add_content(content: &[u8], text: &mut Bytes) -> Result<(), NoMemory>
     ensures { OnOk result (text.new ≡ text.old ++ shown (flat_map spec.escaped (unquoted false content.now))) }
 {
+    if !has_pairs(content) {
+        return add_printed(text, content);
+    }
     let mut taken = false;
     for b in content {
         taken = takes_next(taken, *b);

@@ -1,5 +1,5 @@
 //! Quoted strings of local parts (RFC 5321, 4.1.2).
-ghost use Rattle.std.specs.Prelude.{◌≡◌, ◌<◌, ◌==◌, ◌&&◌, length, false, not, IfOk, IfSome};
+ghost use Rattle.std.specs.Prelude.{◌≡◌, ◌<◌, ◌==◌, ◌&&◌, ◌||◌, length, false, not, IfOk, IfSome};
 ghost use Rattle.std.specs.List.{list_any};
 ghost use Rattle.pf_base.specs.Text.Ascii as ascii;
 ghost use Rattle.pf_addr.specs.Clauses.Quoted as quoted;
@@ -59,6 +59,13 @@ pub(crate) fn means_byte(content: &[u8], byte: u8) -> bool
         }
     }
     false
+}
+
+// Whether a quoted string has a quote or a backslash in its content.
+pub(crate) fn has_pairs(content: &[u8]) -> bool
+    ensures { result ≡ list_any (λ b. b == ascii.double_quote || b == ascii.backslash) content.now }
+{
+    content.iter().any(|b| *b == b'"' || *b == b'\\')
 }
 
 fn has_backslash(content: &[u8]) -> bool
