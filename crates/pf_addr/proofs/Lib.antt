@@ -10,3 +10,5 @@ pub mod QuotedLemmas
 pub mod RouteLemmas
 pub mod Rows
 pub mod Runs
+pub mod SpelledLemmas
+pub mod SpelledParts

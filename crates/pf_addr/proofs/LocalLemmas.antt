@@ -6,7 +6,8 @@ use Rattle.std.proofs.lemmas.List.{get_or-take, take_at, take_more}
 use Rattle.std.proofs.lemmas.List.Folds.{list_all-append}
 use Rattle.std.proofs.lemmas.List.Sums.{prefix_len-le-length}
 use Rattle.pf_addr.specs.Grammar.{IsContent, IsDomain, IsLocalPart, name, literal, plain, quoted, is_lone_byte, is_name_byte, is_plain_byte}
-use Rattle.pf_addr.specs.Clauses.Reading.{behind_at, closing_quote, local_len, local_of, plain_len}
+use Rattle.pf_addr.specs.Clauses.Quoted.{closing_quote, unquoted}
+use Rattle.pf_addr.specs.Clauses.Reading.{behind_at, content_of, local_len, local_of, plain_len}
 use Rattle.pf_addr.proofs.AtLemmas.{is_other, at_none, at_there, behind_at-append, none_at}
 use Rattle.pf_addr.proofs.ByteLemmas.{lone_is_no_at, lone_is_plain, name_is_no_at, name_is_plain, plain_is_lone, plain_is_no}
 use Rattle.pf_addr.proofs.Cases.{either_way, either_option}
@@ -16,6 +17,10 @@ use Rattle.pf_addr.proofs.Runs.{all_weaker, first_passes, run, run_passes}
 quote_is_not_plain : is_plain_byte 34 ≡ false
 unfolding is_plain_byte
 quote_is_not_plain = refl
+
+backslash_is_not_plain : is_plain_byte 92 ≡ false
+unfolding is_plain_byte
+backslash_is_not_plain = refl
 
 bracket_is_not_plain : is_plain_byte 91 ≡ false
 unfolding is_plain_byte
@@ -29,20 +34,27 @@ at_is_plain = refl
 no_quote : (local rest : List ℕ) → 0 < length local → list_all is_plain_byte local ≡ true → eqb (get_or (local ++ rest) 0 0) 34 ≡ false
 no_quote local rest some all = plain_is_no 34 _ quote_is_not_plain (first_passes is_plain_byte local rest some all)
 
+-- plain bytes mean themselves
+plain_stays : (local : List ℕ) → list_all is_plain_byte local ≡ true → unquoted false local ≡ local
+plain_stays [] all = refl
+plain_stays (b ∷ local) all =
+    let parts = and_parts (is_plain_byte b) (list_all is_plain_byte local) all in
+    rw (plain_is_no 92 b backslash_is_not_plain parts.0) (ap (λ l. b ∷ l) (plain_stays local parts.1))
+
 quoted_meant : (content local : List ℕ) → IsContent content local → local_of (34 ∷ content ++ 34 ∷ []) ≡ local
-unfolding local_of
+unfolding local_of content_of
 quoted_meant content local is =
     let len : suc (length (content ++ 34 ∷ [])) - 2 ≡ length content = simp length-append (omega arith) in
     rw (len, take_at content (34 ∷ []) (length content) refl) (means is)
 
 pub local_meant : (is_byte : ℕ → Bool) (spelled local : List ℕ) → ((b : ℕ) → is_byte b ≡ true → is_plain_byte b ≡ true) → IsLocalPart is_byte spelled local
     → local_of spelled ≡ local
-unfolding local_of
+unfolding local_of content_of
 local_meant is_byte [] local weaker (plain some all is) = is
 local_meant is_byte (b ∷ spelled) local weaker (plain some all is) =
     let passes = all_weaker is_byte is_plain_byte weaker (b ∷ spelled) (rw (← is) at all) in
     let first = no_quote (b ∷ spelled) [] (omega arith) passes in
-    rw first is
+    rw first (plain_stays (b ∷ spelled) passes ∙ is)
 local_meant is_byte spelled local weaker (quoted content inside is) = ap local_of is ∙ quoted_meant content local inside
 
 pub local_some : (is_byte : ℕ → Bool) (spelled local : List ℕ) → IsLocalPart is_byte spelled local → 0 < length spelled
@@ -126,9 +138,10 @@ all_lone (x ∷ xs) all none =
     let others = and_parts (is_other x) (list_all is_other xs) none in
     and_from (is_lone_byte x) (list_all is_lone_byte xs) (plain_is_lone x plains.0 others.0) (all_lone xs plains.1 others.1)
 
-unquoted_meant : (text : List ℕ) (n : ℕ) → 0 < n → eqb (get_or text 0 0) 34 ≡ false → local_of (take n text) ≡ take n text
-unfolding local_of
-unquoted_meant text n some h = rw (get_or-take n text 0 0 some, h)
+unquoted_meant : (text : List ℕ) (n : ℕ) → 0 < n → eqb (get_or text 0 0) 34 ≡ false → list_all is_plain_byte (take n text) ≡ true
+    → local_of (take n text) ≡ take n text
+unfolding local_of content_of
+unquoted_meant text n some h all = rw (get_or-take n text 0 0 some, h) (plain_stays (take n text) all)
 
 plain_at : (text : List ℕ) (n : ℕ) → eqb (get_or text 0 0) 34 ≡ false → 0 < n → n ≤ prefix_len is_plain_byte text
     → (eqb (get_or text n 0) 64 ≡ false → list_all is_other (take n text) ≡ true) → LocalAt text n
@@ -136,8 +149,8 @@ plain_at text n h some within others =
     let fits : n ≤ length text = omega (arith, prefix_len-le-length is_plain_byte text) in
     let len = length-take-le n text fits in
     let full : 0 < length (take n text) = omega (arith, len) in
-    let meant = unquoted_meant text n some h in
     let passes = run_passes is_plain_byte text n within in
+    let meant = unquoted_meant text n some h passes in
     record {
       within = fits;
       before = rw meant (plain full passes refl);

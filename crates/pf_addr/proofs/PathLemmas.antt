@@ -19,11 +19,11 @@ use Rattle.pf_addr.proofs.RouteLemmas.{route_complete, route_first, route_sound}
 use Rattle.pf_addr.proofs.Runs.{run, run_passes}
 
 -- a path is at the head of a text, and ends there
-record PathAt (text : List ℕ) (read : PathRead) : Type 0 where
+record PathAt (text : List ℕ) (read : PathRead Address) : Type 0 where
   pub within : read.end ≤ length text
   pub is : IsPath (take read.end text) (drop read.end text) read.path
 
-bare_sound : (text : List ℕ) (read : PathRead) → reading.bare text ≡ Some read → PathAt text read
+bare_sound : (text : List ℕ) (read : PathRead Address) → reading.bare text ≡ Some read → PathAt text read
 unfolding reading.bare
 bare_sound text read h =
     either_option (mailbox text) (λ no. cc (rw no at h)) (λ m is.
@@ -34,16 +34,16 @@ bare_sound text read h =
     (λ goes_on. cc (rw (is, goes_on) at h)))
 
 -- what is after the first bracket of a path, up to there
-record InsideAt (text : List ℕ) (read : PathRead) : Type 0 where
+record InsideAt (text : List ℕ) (read : PathRead Address) : Type 0 where
   pub within : read.end ≤ length text
   pub is : (rest : List ℕ) → IsPath (60 ∷ take read.end text) rest read.path
 
 -- a mailbox and the bracket after it
-record ClosedAt (text : List ℕ) (read : PathRead) : Type 0 where
+record ClosedAt (text : List ℕ) (read : PathRead Address) : Type 0 where
   pub within : read.end ≤ length text
   pub is : (route rest : List ℕ) → IsRoute route → IsPath (60 ∷ route ++ take read.end text) rest read.path
 
-closed_sound : (text : List ℕ) (read : PathRead) → reading.closed text ≡ Some read → ClosedAt text read
+closed_sound : (text : List ℕ) (read : PathRead Address) → reading.closed text ≡ Some read → ClosedAt text read
 unfolding reading.closed
 closed_sound text read h =
     either_option (mailbox text) (λ no. cc (rw no at h)) (λ m is.
@@ -61,7 +61,7 @@ closed_sound text read h =
     }))
     (λ open_end. cc (rw (is, open_end) at h)))
 
-inside_sound : (text : List ℕ) (read : PathRead) → reading.bracketed text ≡ Some read → InsideAt text read
+inside_sound : (text : List ℕ) (read : PathRead Address) → reading.bracketed text ≡ Some read → InsideAt text read
 unfolding reading.bracketed
 inside_sound text read h =
     either_way (eqb (get_or text 0 0) 62)
@@ -80,7 +80,7 @@ inside_sound text read h =
       is = λ rest. rw parts (there.is (take (route_len text) text) rest route.route);
     })))
 
-path_sound : (text : List ℕ) (read : PathRead) → reading.path text ≡ Some read → PathAt text read
+path_sound : (text : List ℕ) (read : PathRead Address) → reading.path text ≡ Some read → PathAt text read
 unfolding reading.path
 path_sound [] read h = bare_sound [] read h
 path_sound (x ∷ xs) read h =
@@ -96,7 +96,7 @@ path_sound (x ∷ xs) read h =
     (λ no_bracket. bare_sound (x ∷ xs) read (rw no_bracket at h))
 
 -- what is read is spelled so
-pub reading_sound : (text : List ℕ) (read : PathRead) → reading.reading text ≡ Some read → IsSpelling text read
+pub reading_sound : (text : List ℕ) (read : PathRead Address) → reading.reading text ≡ Some read → IsSpelling text read
 unfolding reading.reading
 reading_sound text read h =
     either_option (reading.path (drop (prefix_len is_space text) text)) (λ no. cc (rw no at h)) (λ found is.
@@ -170,7 +170,7 @@ routed_complete route spelled rest a (domains r route_is same) is =
       closed_complete spelled rest a is,
     )
 
-path_complete : (text rest : List ℕ) (path : Path) → IsPath text rest path → reading.path (text ++ rest) ≡ Some (record { path = path; end = length text })
+path_complete : (text rest : List ℕ) (path : Path Address) → IsPath text rest path → reading.path (text ++ rest) ≡ Some (record { path = path; end = length text })
 unfolding reading.path reading.bracketed
 path_complete text rest path (null is same) = rw (is, same)
 path_complete text rest path (bracketed route spelled a route_is mailbox_is is same) =
@@ -182,7 +182,7 @@ path_complete text rest path (bare a is ends same) =
     rw (mailbox_first text rest a 60 bracket_is_not_plain refl is, bare_complete text rest a is ends, same)
 
 -- no space is at the head of a path
-path_first : (text rest : List ℕ) (path : Path) → IsPath text rest path → is_space (get_or (text ++ rest) 0 0) ≡ false
+pub path_first : (text rest : List ℕ) (path : Path Address) → IsPath text rest path → is_space (get_or (text ++ rest) 0 0) ≡ false
 path_first text rest path (null is same) = rw is
 path_first text rest path (bracketed route spelled a route_is mailbox_is is same) = rw is
 path_first text rest path (bare a is ends same) =
@@ -190,7 +190,7 @@ path_first text rest path (bare a is ends same) =
     (mailbox_first text rest a 32 (space_is_not_plain 32 refl) refl is) (mailbox_first text rest a 9 (space_is_not_plain 9 refl) refl is)
 
 -- a text is read as it is spelled
-pub reading_complete : (text : List ℕ) (read : PathRead) → IsSpelling text read → reading.reading text ≡ Some read
+pub reading_complete : (text : List ℕ) (read : PathRead Address) → IsSpelling text read → reading.reading text ≡ Some read
 unfolding reading.reading
 reading_complete text read s =
     let whole : text ≡ s.space ++ (s.path ++ s.rest) = s.whole ∙ append_assoc s.space s.path s.rest in
@@ -198,7 +198,7 @@ reading_complete text read s =
     rw (whole, n, drop_at s.space (s.path ++ s.rest) (length s.space) refl, path_complete s.path s.rest read.path s.spells, ← s.end)
 
 -- a text spells one path at most
-pub one_spelling : (text : List ℕ) (read other : PathRead) → IsSpelling text read → IsSpelling text other → other ≡ read
+pub one_spelling : (text : List ℕ) (read other : PathRead Address) → IsSpelling text read → IsSpelling text other → other ≡ read
 one_spelling text read other s t =
     let a = reading_complete text read s in
     let b = reading_complete text other t in

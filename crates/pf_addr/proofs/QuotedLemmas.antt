@@ -1,12 +1,12 @@
 -- Quoted strings, as they are spelled and what they mean.
-use Rattle.std.proofs.Common.{◌≡◌, ℕ, suc, ◌+◌, ◌<◌, Bool, eqb, List, [], ◌∷◌, ◌++◌, Some, length, get_or, take, true, false, refl, ap, arith}
+use Rattle.std.proofs.Common.{◌≡◌, ℕ, suc, ◌+◌, ◌<◌, ◌≤◌, Bool, eqb, List, [], ◌∷◌, ◌++◌, Some, length, get_or, take, true, false, refl, sym, ap, arith}
 use Rattle.std.specs.Prelude.{◌==◌, ◌||◌}
-use Rattle.std.specs.List.{flat_map}
+use Rattle.std.specs.List.{flat_map, list_any}
 use Rattle.std.specs.Option.{option_map}
-use Rattle.std.proofs.lemmas.Bool.{eqb-true, or_from, or_parts}
+use Rattle.std.proofs.lemmas.Bool.{eqb-true, ne_eqb, or_from, or_parts}
 use Rattle.pf_addr.specs.Grammar.{IsContent, none, byte, pair}
 use Rattle.pf_addr.specs.Printed.{escaped}
-use Rattle.pf_addr.specs.Clauses.Reading.{closing_quote, unquoted}
+use Rattle.pf_addr.specs.Clauses.Quoted.{closing_quote, unquoted}
 use Rattle.pf_addr.proofs.Cases.{either_way, either_option}
 
 -- a quoted string ends at the quote after its content
@@ -22,6 +22,22 @@ pub means : {content local : List ℕ} → IsContent content local → unquoted 
 means none = refl
 means (byte b other more) = let parts = or_parts (eqb b 34) (eqb b 92) other in rw parts.1 (ap (λ bytes. b ∷ bytes) (means more))
 means (pair b more) = ap (λ bytes. b ∷ bytes) (means more)
+
+-- a text without a backslash means itself
+pub stays : (text : List ℕ) → list_any (λ b. b == 92) text ≡ false → unquoted false text ≡ text
+stays [] h = refl
+stays (b ∷ text) h =
+    let parts = or_parts (b == 92) (list_any (λ b. b == 92) text) h in
+    rw parts.0 (ap (λ l. b ∷ l) (stays text parts.1))
+
+-- content of two bytes means one at least
+pub longer_means : (text : List ℕ) → 2 ≤ length text → false ≡ (length (unquoted false text) == 0)
+longer_means [] long = absurd (omega arith)
+longer_means (b ∷ []) long = absurd (omega arith)
+longer_means (b ∷ c ∷ text) long =
+    either_way (b == 92)
+    (λ slash. rw slash (sym (ne_eqb _ 0 (λ e. omega (arith, e)))))
+    (λ other. rw other (sym (ne_eqb _ 0 (λ e. omega (arith, e)))))
 
 -- content after a backslash or not
 abbrev IsContentBehind : Bool → List ℕ → List ℕ → Type 0

@@ -63,7 +63,7 @@ unfolding is_name_byte
 colon_fails = refl
 
 -- no byte of a route is a colon
-route_bytes : (route : List ℕ) → is_route route ≡ true → list_all (λ b. not (is_colon b)) route ≡ true
+pub route_bytes : (route : List ℕ) → is_route route ≡ true → list_all (λ b. not (is_colon b)) route ≡ true
 unfolding is_route
 route_bytes route h =
     all_weaker is_route_byte (λ b. not (is_colon b)) (λ b p. not_from_false _ (other is_route_byte 58 b colon_fails p)) route
@@ -82,7 +82,7 @@ route_first (x ∷ xs) rest h =
     other is_route_byte 62 x close_fails (and_parts (is_route_byte x) (list_all is_route_byte xs) all).0
 
 -- what is before the first such byte
-before_at : (p : ℕ → Bool) (xs ys : List ℕ) (y : ℕ) → list_all (λ b. not (p b)) xs ≡ true → p y ≡ true → before_first p (xs ++ y ∷ ys) ≡ xs
+pub before_at : (p : ℕ → Bool) (xs ys : List ℕ) (y : ℕ) → list_all (λ b. not (p b)) xs ≡ true → p y ≡ true → before_first p (xs ++ y ∷ ys) ≡ xs
 before_at p xs ys y all is =
     let n = run (λ b. not (p b)) xs (y ∷ ys) all (ap not is) in
     rw n (take_at xs (y ∷ ys) (length xs) refl)

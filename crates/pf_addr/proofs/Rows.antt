@@ -1,18 +1,18 @@
 -- Worked examples of the definitions, each by computation.
 use Rattle.std.proofs.Common.{◌≡◌, ◌∷◌, ℕ, List, [], Option, Some, None, refl, codes}
 use Rattle.std.specs.Prelude.{map}
-use Rattle.pf_addr.specs.Grammar.{IsSpelling, is_at_domain, is_literal_byte, is_name_byte, is_plain_byte, is_route}
+use Rattle.pf_addr.specs.Grammar.{IsSpelling, is_at_domain, is_literal_byte, is_lone_byte, is_name_byte, is_plain_byte, is_route}
 use Rattle.pf_addr.specs.Printed.{escaped, is_atom_byte, printed, printed_domain, printed_local}
-use Rattle.pf_addr.specs.Clauses.Reading.{address_of, bare, bracketed, closed, domain_len, local_len, local_of, mailbox, mailbox_len, path, plain_len, reading, route_len}
+use Rattle.pf_addr.specs.Spelled.{bare, between, bracketed, dot_string, first_path, is_domain, local_part, mailbox, mailbox_with_domain, path, path_of, quoted_string, routed_mailbox}
 use Rattle.pf_addr.specs.declared.address.Address.{Address}
 use Rattle.pf_addr.specs.declared.address.Path.TheVariants.{Null, To}
 use Rattle.pf_addr.specs.declared.address.PathRead.{PathRead}
-use Rattle.pf_addr.proofs.PathLemmas.{reading_complete, reading_sound}
+use Rattle.pf_addr.proofs.SpelledLemmas.{path_of_reads, path_of_sound}
 
 abbrev address : List ℕ → List ℕ → Address
 address local domain = record { local = local; domain = domain }
 
-abbrev to : List ℕ → List ℕ → ℕ → Option PathRead
+abbrev to : List ℕ → List ℕ → ℕ → Option (PathRead Address)
 to local domain end = Some (record { path = To (address local domain); end = end })
 
 -- texts that spell a path
@@ -36,7 +36,7 @@ spellings =
     ∷ codes "<john@.example..com.>"
     ∷ []
 
-abbrev paths : List (Option PathRead)
+abbrev paths : List (Option (PathRead Address))
 paths =
     Some (record { path = Null; end = 2 })
     ∷ Some (record { path = Null; end = 4 })
@@ -56,8 +56,8 @@ paths =
     ∷ to (codes "john") (codes ".example..com.") 21
     ∷ []
 
-spellings_are_read : map reading spellings ≡ paths
-unfolding reading path bracketed closed bare address_of domain_len local_len local_of mailbox mailbox_len plain_len route_len is_at_domain is_literal_byte is_name_byte is_plain_byte is_route
+spellings_are_read : map path_of spellings ≡ paths
+unfolding path_of first_path path bare bracketed routed_mailbox mailbox mailbox_with_domain is_domain local_part dot_string quoted_string between is_at_domain is_literal_byte is_lone_byte is_name_byte is_plain_byte is_route
 spellings_are_read = refl
 
 -- texts that spell none
@@ -83,27 +83,27 @@ no_spellings =
     ∷ codes "a,b"
     ∷ []
 
-abbrev nothing : List (List ℕ) → List (Option PathRead)
+abbrev nothing : List (List ℕ) → List (Option (PathRead Address))
 nothing texts = map (λ text. None) texts
 
-no_spellings_are_not_read : map reading no_spellings ≡ nothing no_spellings
-unfolding reading path bracketed closed bare address_of domain_len local_len local_of mailbox mailbox_len plain_len route_len is_at_domain is_literal_byte is_name_byte is_plain_byte is_route
+no_spellings_are_not_read : map path_of no_spellings ≡ nothing no_spellings
+unfolding path_of first_path path bare bracketed routed_mailbox mailbox mailbox_with_domain is_domain local_part dot_string quoted_string between is_at_domain is_literal_byte is_lone_byte is_name_byte is_plain_byte is_route
 no_spellings_are_not_read = refl
 
 -- the same in the words of the grammar
-reads_two_at_signs : reading (codes "<a@b@example.com>") ≡ to (codes "a@b") (codes "example.com") 17
-unfolding reading path bracketed closed bare address_of domain_len local_len local_of mailbox mailbox_len plain_len route_len is_at_domain is_literal_byte is_name_byte is_plain_byte is_route
+reads_two_at_signs : path_of (codes "<a@b@example.com>") ≡ to (codes "a@b") (codes "example.com") 17
+unfolding path_of first_path path bare bracketed routed_mailbox mailbox mailbox_with_domain is_domain local_part dot_string quoted_string between is_at_domain is_literal_byte is_lone_byte is_name_byte is_plain_byte is_route
 reads_two_at_signs = refl
 
 two_at_signs : IsSpelling (codes "<a@b@example.com>") (record { path = To (address (codes "a@b") (codes "example.com")); end = 17 })
-two_at_signs = reading_sound _ _ reads_two_at_signs
+two_at_signs = path_of_sound _ _ reads_two_at_signs
 
-reads_no_bracket : reading (codes "<john@example.com") ≡ None
-unfolding reading path bracketed closed bare address_of domain_len local_len local_of mailbox mailbox_len plain_len route_len is_at_domain is_literal_byte is_name_byte is_plain_byte is_route
+reads_no_bracket : path_of (codes "<john@example.com") ≡ None
+unfolding path_of first_path path bare bracketed routed_mailbox mailbox mailbox_with_domain is_domain local_part dot_string quoted_string between is_at_domain is_literal_byte is_lone_byte is_name_byte is_plain_byte is_route
 reads_no_bracket = refl
 
-no_bracket : (read : PathRead) → ¬ (IsSpelling (codes "<john@example.com") read)
-no_bracket read s = cc (reads_no_bracket, reading_complete _ read s)
+no_bracket : (read : PathRead Address) → ¬ (IsSpelling (codes "<john@example.com") read)
+no_bracket = rw reads_no_bracket at (path_of_reads (codes "<john@example.com"))
 
 -- addresses and how they are printed
 abbrev addresses : List Address

@@ -1,2 +1,3 @@
 -- Words of contracts, between the code and the definitions.
+pub mod Quoted
 pub mod Reading

@@ -1,5 +1,5 @@
 -- How a path is spelled (RFC 5321, 4.1.2 and 4.1.3). Bytes that the RFC has and this profile leaves out, or the other way round, are named.
-use Rattle.std.specs.Prelude.{ℕ, ◌+◌, ◌<◌, ◌≤◌, ◌≡◌, ◌==◌, ◌&&◌, ◌||◌, Bool, true, false, not, nat_lt, nat_le, List, [], ◌∷◌, ◌++◌, Result, Ok, Err, length, codes}
+use Rattle.std.specs.Prelude.{ℕ, ◌+◌, ◌<◌, ◌≤◌, ◌≡◌, ◌==◌, ◌&&◌, ◌||◌, Bool, true, false, not, nat_lt, nat_le, List, [], ◌∷◌, ◌++◌, Option, Some, None, length, codes}
 use Rattle.std.specs.Char.{is_ascii_alphanumeric}
 use Rattle.std.specs.List.{list_all, list_any, slice_split}
 use Rattle.pf_base.specs.Text.Ascii as ascii
@@ -8,7 +8,6 @@ use Rattle.pf_addr.specs.declared.address.Address.{Address}
 use Rattle.pf_addr.specs.declared.address.Path.{Path}
 use Rattle.pf_addr.specs.declared.address.Path.TheVariants.{Null, To}
 use Rattle.pf_addr.specs.declared.address.PathRead.{PathRead}
-use Rattle.pf_addr.specs.declared.address.PathFault.{PathFault}
 
 -- Domain: letters, digits, hyphens and dots, in any order; the underscore is taken too
 unfoldable pub is_name_byte : ℕ → Bool
@@ -49,7 +48,7 @@ pub data IsLocalPart (is_byte : ℕ → Bool) (text local : List ℕ) : Type 0 w
   quoted : (content : List ℕ) → IsContent content local → text ≡ ascii.double_quote ∷ content ++ ascii.double_quote ∷ [] →
       IsLocalPart is_byte text local
 
--- Mailbox = Local-part "@" ( Domain / address-literal ); the local part may also are alone, as postmaster's does
+-- Mailbox = Local-part "@" ( Domain / address-literal ); the local part may also be alone, as that of postmaster is
 pub data IsMailbox (text : List ℕ) (address : Address) : Type 0 where
   with_domain : (local : List ℕ) → IsLocalPart is_plain_byte local address.local → IsDomain address.domain →
       text ≡ local ++ ascii.at_sign ∷ address.domain
@@ -76,7 +75,7 @@ is_end [] = true
 is_end (b ∷ rest) = is_space b
 
 -- Reverse-path = Path / "<>", Path = "<" [ A-d-l ":" ] Mailbox ">", before a rest; a mailbox without brackets is a path too
-pub data IsPath (text rest : List ℕ) (path : Path) : Type 0 where
+pub data IsPath (text rest : List ℕ) (path : Path Address) : Type 0 where
   null : text ≡ codes "<>" → path ≡ Null → IsPath text rest path
   bracketed : (route mailbox : List ℕ) (address : Address) → IsRoute route → IsMailbox mailbox address →
       text ≡ ascii.less_than_sign ∷ route ++ mailbox ++ ascii.greater_than_sign ∷ []
@@ -84,7 +83,7 @@ pub data IsPath (text rest : List ℕ) (path : Path) : Type 0 where
   bare : (address : Address) → IsMailbox text address → is_end rest ≡ true → path ≡ To address → IsPath text rest path
 
 -- a text begins with space and a path, and the path ends there
-pub record IsSpelling (text : List ℕ) (read : PathRead) : Type 0 where
+pub record IsSpelling (text : List ℕ) (read : PathRead Address) : Type 0 where
   pub space : List ℕ
   pub path : List ℕ
   pub rest : List ℕ
@@ -93,7 +92,7 @@ pub record IsSpelling (text : List ℕ) (read : PathRead) : Type 0 where
   pub spells : IsPath path rest read.path
   pub end : read.end ≡ length space + length path
 
--- what reading a text gives: the one path that it spells, or a fault where it spells none
-abbrev pub Reads : List ℕ → Result PathRead PathFault → Type 0
-Reads text (Ok read) = IsSpelling text read × ((other : PathRead) → IsSpelling text other → other ≡ read)
-Reads text (Err fault) = (read : PathRead) → ¬ (IsSpelling text read)
+-- what reading a text gives: the one path that it spells, or nothing where it spells none
+abbrev pub Reads : List ℕ → Option (PathRead Address) → Type 0
+Reads text (Some read) = IsSpelling text read × ((other : PathRead Address) → IsSpelling text other → other ≡ read)
+Reads text None = (read : PathRead Address) → ¬ (IsSpelling text read)

@@ -16,9 +16,13 @@ is_atom_byte b = is_ascii_alphanumeric b || list_any (λ other. other == b) (cod
 unfoldable pub escaped : ℕ → List ℕ
 escaped b = if b == ascii.double_quote || b == ascii.backslash then ascii.backslash ∷ b ∷ [] else b ∷ []
 
--- a local part, quoted where it is empty or has a byte that is none of an atom or a dot
+-- one or more bytes of atoms and dots
+abbrev pub is_bare : List ℕ → Bool
+is_bare local = nat_lt 0 (length local) && list_all is_atom_byte local
+
+-- a local part, quoted where it is none of these
 unfoldable pub printed_local : List ℕ → List ℕ
-printed_local local = if nat_lt 0 (length local) && list_all is_atom_byte local then local
+printed_local local = if is_bare local then local
     else ascii.double_quote ∷ flat_map escaped local ++ ascii.double_quote ∷ []
 
 -- an at sign and the domain, where there is one
@@ -35,5 +39,5 @@ pub data IsDomainOrNone (text : List ℕ) : Type 0 where
   given : IsDomain text → IsDomainOrNone text
 
 -- reading a printed address gives it again, and takes all of it
-abbrev pub read_again : Address → PathRead
+abbrev pub read_again : Address → PathRead Address
 read_again address = record { path = To address; end = length (printed address) }

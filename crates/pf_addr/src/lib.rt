@@ -11,6 +11,6 @@ mod quoted;
 mod reading;
 mod route;
 
-pub use address::{Address, Path, PathFault, PathRead};
+pub use address::{Address, AddressRef, Path, PathFault, PathRead};
 pub use printing::print;
-pub use reading::path;
+pub use reading::{path, path_ref};

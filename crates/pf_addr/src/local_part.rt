@@ -1,13 +1,12 @@
 //! Local parts of addresses, by their lengths. A length of 0 says that there is none.
-ghost use Rattle.std.specs.Prelude.{◌≡◌, ◌≤◌, ◌+◌, length, false, IfOk};
+ghost use Rattle.std.specs.Prelude.{◌≡◌, ◌≤◌, ◌+◌, length, false};
 ghost use Rattle.std.specs.List.{prefix_len};
 ghost use Rattle.pf_addr.specs.Grammar as grammar;
+ghost use Rattle.pf_addr.specs.Clauses.Quoted as quoted;
 ghost use Rattle.pf_addr.specs.Clauses.Reading as reading;
 
 use crate::classes::is_plain_byte;
-use crate::quoted::{closing_quote, unquoted};
-use pf_base::{Bytes, NoMemory};
-use std::alloc::Global;
+use crate::quoted::closing_quote;
 
 // How many plain bytes a text begins with.
 fn plain_bytes(text: &[u8]) -> usize
@@ -43,7 +42,7 @@ fn plain_len(text: &[u8]) -> usize
 // The length of the quoted string whose first quote is before a text.
 fn quoted_len(behind: &[u8]) -> usize
     ensures within { result ≤ length behind.now + 1 }
-    ensures count { result ≡ reading.quoted_len_of (reading.closing_quote false behind.now) }
+    ensures count { result ≡ reading.quoted_len_of (quoted.closing_quote false behind.now) }
 {
     match closing_quote(behind) {
         Some(n) => n + 2,
@@ -63,14 +62,14 @@ pub(crate) fn local_len(text: &[u8]) -> usize
     }
 }
 
-// What a local part means.
-#[tactic(auto, unfolding(crate::specs::Clauses::Reading::local_of))]
-pub(crate) fn local_of(alloc: Global, spelled: &[u8]) -> Result<Bytes, NoMemory>
-    ensures { IfOk result (λ local. local ≡ reading.local_of spelled.now) }
+// What is between the quotes of a local part, or all of one that has none.
+#[tactic(auto, unfolding(crate::specs::Clauses::Reading::content_of))]
+pub(crate) fn content_of(spelled: &[u8]) -> &[u8]
+    ensures { result.now ≡ reading.content_of spelled.now }
 {
     match spelled {
-        [b'"', content @ .., _] => unquoted(alloc, content),
-        [b'"'] => Ok(Bytes::new(alloc)),
-        _ => Bytes::from_slice(alloc, spelled),
+        [b'"', content @ .., _] => content,
+        [b'"'] => &[],
+        _ => spelled,
     }
 }

@@ -1,12 +1,10 @@
 //! Mailboxes, by the lengths of their parts (RFC 5321, 4.1.2).
-ghost use Rattle.std.specs.Prelude.{◌≡◌, ◌≤◌, ◌<◌, length, IfOk, IfSome};
+ghost use Rattle.std.specs.Prelude.{◌≡◌, ◌≤◌, ◌<◌, length, IfSome};
 ghost use Rattle.pf_addr.specs.Clauses.Reading as reading;
 
-use crate::address::Address;
+use crate::address::AddressRef;
 use crate::domain::domain_len;
-use crate::local_part::{local_len, local_of};
-use pf_base::{Bytes, NoMemory};
-use std::alloc::Global;
+use crate::local_part::{content_of, local_len};
 
 // How long the parts of a mailbox are as they are spelled; a domain of length 0 is none.
 #[derive(Clone, Copy)]
@@ -56,16 +54,18 @@ pub(crate) fn mailbox_len(text: &[u8], m: Mailbox) -> usize
 }
 
 // The address of a mailbox that a text begins with.
-#[tactic(auto, unfolding(crate::specs::Clauses::Reading::address_of, crate::specs::Clauses::Reading::mailbox_len))]
-pub(crate) fn address_of(alloc: Global, text: &[u8], m: Mailbox) -> Result<Address, NoMemory>
+#[tactic(auto, unfolding(crate::specs::Clauses::Reading::address_of, crate::specs::Clauses::Reading::local_of, crate::specs::Clauses::Reading::mailbox_len))]
+pub(crate) fn address_of(text: &[u8], m: Mailbox) -> AddressRef<'_>
     requires { reading.mailbox_len m ≤ length text.now }
-    ensures { IfOk result (λ address. address ≡ reading.address_of text.now m) }
+    ensures { result ≡ reading.address_of text.now m }
 {
-    let local = local_of(alloc, &text[..m.local])?;
-    let domain = if m.domain == 0 {
-        Bytes::new(alloc)
+    let domain: &[u8] = if m.domain == 0 {
+        &[]
     } else {
-        Bytes::from_slice(alloc, &text[m.local + 1..m.local + 1 + m.domain])?
+        &text[m.local + 1..m.local + 1 + m.domain]
     };
-    Ok(Address { local, domain })
+    AddressRef {
+        content: content_of(&text[..m.local]),
+        domain,
+    }
 }

@@ -1,16 +1,19 @@
 //! Paths as MAIL and RCPT carry them (RFC 5321, 4.1.2).
-ghost use Rattle.std.specs.Prelude.{◌≡◌, ◌≤◌, ◌<◌, ◌+◌, ◌^◌, length, IfOk, IfSome};
+ghost use Rattle.std.specs.Prelude.{◌≡◌, ◌≤◌, ◌<◌, ◌+◌, ◌^◌, length, IfSome};
 ghost use Rattle.std.specs.List.{prefix_len};
+ghost use Rattle.std.specs.Option.{ok_or};
+ghost use Rattle.std.specs.Result.{result_ok};
 ghost use Rattle.pf_base.specs.Text.Space as space;
 ghost use Rattle.pf_base.specs.Clauses.Unless.{Unless};
 ghost use Rattle.pf_addr.specs.Grammar.{Reads};
 ghost use Rattle.pf_addr.specs.Grammar as grammar;
+ghost use Rattle.pf_addr.specs.Spelled.{path_of};
 ghost use Rattle.pf_addr.specs.Clauses.Reading as reading;
 
-use crate::address::{Path, PathFault, PathRead};
+use crate::address::{AddressRef, Path, PathFault, PathRead};
 use crate::mailbox::{address_of, mailbox_in, mailbox_len};
 use crate::route::route_len;
-use pf_base::{NoMemory, is_space};
+use pf_base::is_space;
 use std::alloc::Global;
 
 fn is_end(rest: &[u8]) -> bool
@@ -32,48 +35,42 @@ fn space_len(text: &[u8]) -> usize
 
 // A path without brackets.
 #[tactic(auto, unfolding(crate::specs::Clauses::Reading::bare))]
-fn bare(alloc: Global, text: &[u8]) -> Result<Option<PathRead>, NoMemory>
-    ensures within { IfOk result (λ read. IfSome read (λ r. r.end ≤ length text.now)) }
-    ensures path { IfOk result (λ read. read ≡ reading.bare text.now) }
+fn bare(text: &[u8]) -> Option<PathRead<AddressRef<'_>>>
+    ensures within { IfSome result (λ r. r.end ≤ length text.now) }
+    ensures path { result ≡ reading.bare text.now }
 {
-    let Some(m) = mailbox_in(text) else {
-        return Ok(None);
-    };
+    let m = mailbox_in(text)?;
     let end = mailbox_len(text, m);
     if !is_end(&text[end..]) {
-        return Ok(None);
+        return None;
     }
-    let address = address_of(alloc, text, m)?;
-    Ok(Some(PathRead {
-        path: Path::To(address),
+    Some(PathRead {
+        path: Path::To(address_of(text, m)),
         end: end as u64,
-    }))
+    })
 }
 
 // A mailbox and the bracket after it.
 #[tactic(auto, unfolding(crate::specs::Clauses::Reading::closed))]
-fn closed(alloc: Global, text: &[u8]) -> Result<Option<PathRead>, NoMemory>
-    ensures within { IfOk result (λ read. IfSome read (λ r. r.end ≤ length text.now)) }
-    ensures path { IfOk result (λ read. read ≡ reading.closed text.now) }
+fn closed(text: &[u8]) -> Option<PathRead<AddressRef<'_>>>
+    ensures within { IfSome result (λ r. r.end ≤ length text.now) }
+    ensures path { result ≡ reading.closed text.now }
 {
-    let Some(m) = mailbox_in(text) else {
-        return Ok(None);
-    };
+    let m = mailbox_in(text)?;
     let end = mailbox_len(text, m);
     if end == text.len() || text[end] != b'>' {
-        return Ok(None);
+        return None;
     }
-    let address = address_of(alloc, text, m)?;
-    Ok(Some(PathRead {
-        path: Path::To(address),
+    Some(PathRead {
+        path: Path::To(address_of(text, m)),
         end: end as u64 + 1,
-    }))
+    })
 }
 
 // The same path, after so many bytes.
-fn behind(n: usize, read: Option<PathRead>) -> Option<PathRead>
+fn behind<'a>(n: usize, read: Option<PathRead<AddressRef<'a>>>) -> Option<PathRead<AddressRef<'a>>>
     requires { IfSome read (λ r. n + r.end < 2 ^ 64) }
-    ensures { result ≡ reading.behind n read }
+    ensures { result ≡ reading.behind n read.entry }
 {
     let read = read?;
     Some(PathRead {
@@ -84,53 +81,60 @@ fn behind(n: usize, read: Option<PathRead>) -> Option<PathRead>
 
 // What is after the first bracket of a path.
 #[tactic(auto, unfolding(crate::specs::Clauses::Reading::bracketed))]
-fn bracketed(alloc: Global, text: &[u8]) -> Result<Option<PathRead>, NoMemory>
-    ensures within { IfOk result (λ read. IfSome read (λ r. r.end ≤ length text.now)) }
-    ensures path { IfOk result (λ read. read ≡ reading.bracketed text.now) }
+fn bracketed(text: &[u8]) -> Option<PathRead<AddressRef<'_>>>
+    ensures within { IfSome result (λ r. r.end ≤ length text.now) }
+    ensures path { result ≡ reading.bracketed text.now }
 {
     if let [b'>', ..] = text {
-        return Ok(Some(PathRead {
+        return Some(PathRead {
             path: Path::Null,
             end: 1,
-        }));
+        });
     }
     let route = route_len(text);
-    let read = closed(alloc, &text[route..])?;
-    Ok(behind(route, read))
+    behind(route, closed(&text[route..]))
 }
 
 #[tactic(auto, unfolding(crate::specs::Clauses::Reading::path))]
-fn path_in(alloc: Global, text: &[u8]) -> Result<Option<PathRead>, NoMemory>
-    ensures within { IfOk result (λ read. IfSome read (λ r. r.end ≤ length text.now)) }
-    ensures path { IfOk result (λ read. read ≡ reading.path text.now) }
+fn path_in(text: &[u8]) -> Option<PathRead<AddressRef<'_>>>
+    ensures within { IfSome result (λ r. r.end ≤ length text.now) }
+    ensures path { result ≡ reading.path text.now }
 {
     match text {
-        [b'<', inside @ ..] => {
-            let read = bracketed(alloc, inside)?;
-            Ok(behind(1, read))
-        }
-        _ => bare(alloc, text),
+        [b'<', inside @ ..] => behind(1, bracketed(inside)),
+        _ => bare(text),
     }
 }
 
 // A path after space.
 #[tactic(auto, unfolding(crate::specs::Clauses::Reading::reading))]
-fn read(alloc: Global, text: &[u8]) -> Result<Option<PathRead>, NoMemory>
-    ensures { IfOk result (λ read. read ≡ reading.reading text.now) }
+fn read(text: &[u8]) -> Option<PathRead<AddressRef<'_>>>
+    ensures { result ≡ reading.reading text.now }
 {
     let space = space_len(text);
-    let read = path_in(alloc, &text[space..])?;
-    Ok(behind(space, read))
+    behind(space, path_in(&text[space..]))
 }
 
 /// The path that a text begins with, after space, and where it ends (RFC 5321, 4.1.2): `<>`, an address alone, or in
-/// brackets, there with a source route before it or without. Malformed exactly where the text begins with no path.
-pub fn path(alloc: Global, text: &[u8]) -> Result<PathRead, PathFault>
-    ensures { Unless result PathFault.NoMemory (Reads text.now) }
+/// brackets, there with a source route before it or without. None exactly where the text begins with no path. Its address is
+/// in the text, and no memory is taken.
+pub fn path_ref(text: &[u8]) -> Option<PathRead<AddressRef<'_>>>
+    ensures is { result ≡ path_of text.now }
+    ensures reads { Reads text.now result }
 {
-    match read(alloc, text) {
-        Err(NoMemory) => Err(PathFault::NoMemory),
-        Ok(None) => Err(PathFault::Malformed),
-        Ok(Some(read)) => Ok(read),
-    }
+    read(text)
+}
+
+/// The same path, with an address that does not need the text. Malformed exactly where the text begins with no path.
+pub fn path(alloc: Global, text: &[u8]) -> Result<PathRead, PathFault>
+    ensures is { Unless result PathFault.NoMemory (λ r. r ≡ ok_or (path_of text.now) PathFault.Malformed) }
+    ensures reads { Unless result PathFault.NoMemory (λ r. Reads text.now (result_ok r)) }
+{
+    let Some(read) = path_ref(text) else {
+        return Err(PathFault::Malformed);
+    };
+    Ok(PathRead {
+        path: read.path.to_path(alloc)?,
+        end: read.end,
+    })
 }

@@ -3,21 +3,26 @@ use Rattle.std.proofs.Common.{◌≡◌, ◌++◌, true, false, [], ◌∷◌, m
 use Rattle.std.specs.Fmt.{digits}
 use Rattle.pf_base.specs.Text.Lines.{lines, rest}
 use Rattle.pf_base.specs.Text.Printing.{printed_line}
+use Rattle.pf_addr.specs.Grammar.{is_at_domain, is_literal_byte, is_lone_byte, is_name_byte, is_plain_byte, is_route}
+use Rattle.pf_addr.specs.Printed.{escaped, is_atom_byte, printed as printed_address, printed_domain, printed_local}
+use Rattle.pf_addr.specs.Spelled.{bare, between, bracketed, dot_string, first_path, is_domain, local_part, mailbox, mailbox_with_domain, path, path_of, quoted_string}
+use Rattle.pf_addr.specs.Spelled.{routed_mailbox}
+use Rattle.pf_addr.specs.declared.address.Address.{Address}
+use Rattle.pf_addr.specs.declared.address.Path.TheVariants.{Null, To}
 use Rattle.pf_cidr.specs.declared.address.Addr.TheVariants.{V4}
 use Rattle.pf_eval.specs.Judge.{end_of}
 use Rattle.pf_eval.specs.declared.policy.PlainEnd.TheVariants.{Accept, Deny}
 use Rattle.pf_eval.specs.declared.policy.PlainItem.TheVariants.{PermitMynetworks, RejectUnauthDestination}
-use Rattle.pf_smtp.specs.Command.{after_keyword, argument_of, verb_named, verb_of}
+use Rattle.pf_smtp.specs.Command.{after_keyword, argument_of, verb_named, verb_of, whole_path}
 use Rattle.pf_smtp.specs.Clauses.Gathering.{line_given}
-use Rattle.pf_smtp.specs.Path.{address_of, bracketed, is_local_byte, is_local_part, path_of}
 use Rattle.pf_smtp.specs.Clauses.Feeding.{fresh, given, going_of, partial_after}
 use Rattle.pf_smtp.specs.Session.{before, log_text, records_text, replies_text, session, start, stays, steps}
-use Rattle.pf_smtp.specs.Step.{command, helo, judged, line_step, logs, mail, mail_address, mail_path, quit, rcpt, rcpt_address, rcpt_path, says, step}
+use Rattle.pf_smtp.specs.Step.{command, helo, is_routed, judged, judged_domain, line_step, logs, mail, mail_from, mail_path, quit, rcpt, rcpt_path, rcpt_to, relay_end}
+use Rattle.pf_smtp.specs.Step.{says, step}
 use Rattle.pf_smtp.specs.Text.{accepted_text, crlf, denial_text, denied_text, greeting_of, helo_text, joined, line_text, log_line, mail_text, quit_text, rcpt_text}
 use Rattle.pf_smtp.specs.Text.{recipient_text, relay_denied_text, reply_text, text_of}
 use Rattle.pf_smtp.specs.declared.command.Verb.TheVariants as verb
 use Rattle.pf_smtp.specs.declared.entry.Entry.TheVariants.{Accepted, Denied}
-use Rattle.pf_smtp.specs.declared.path.Address.{Address}
 use Rattle.pf_smtp.specs.declared.reply.HeloReply.TheVariants.{NeedsName, Hello}
 use Rattle.pf_smtp.specs.declared.reply.LineReply.TheVariants.{TooLong, BadSyntax, NotRecognized}
 use Rattle.pf_smtp.specs.declared.reply.MailReply.TheVariants as mail_reply
@@ -51,7 +56,10 @@ abbrev idle : State
 idle = record { line = 7; sender = None; ended = false }
 
 abbrev begun : State
-begun = record { line = 7; sender = Some joe; ended = false }
+begun = record { line = 7; sender = Some (To joe); ended = false }
+
+abbrev bounce : State
+bounce = record { line = 7; sender = Some Null; ended = false }
 
 abbrev ended : State
 ended = record { line = 7; sender = None; ended = true }
@@ -75,7 +83,7 @@ no_verb = refl
 rest_of_the_line : map argument_of (codes "HELO \t a b" ∷ codes "QUIT" ∷ []) ≡ codes "a b" ∷ [] ∷ []
 rest_of_the_line = refl
 
-keyword_in_any_case : map (after_keyword (codes "FROM:")) (codes "From: \t<a@b>" ∷ codes "FROM:" ∷ []) ≡ Some (codes "<a@b>") ∷ Some [] ∷ []
+keyword_in_any_case : map (after_keyword (codes "FROM:")) (codes "From: \t<a@b>" ∷ codes "FROM:" ∷ []) ≡ Some (codes " \t<a@b>") ∷ Some [] ∷ []
 unfolding after_keyword
 keyword_in_any_case = refl
 
@@ -84,34 +92,44 @@ unfolding after_keyword
 no_keyword = refl
 
 -- paths
-bytes_of_a_local_part : map is_local_byte (codes "aZ9.-_+") ≡ replicate 7 true
-bytes_of_a_local_part = refl
+path_of_joe : whole_path (codes "<joe@other.test>") ≡ Some (To joe)
+unfolding whole_path path_of first_path path bare bracketed routed_mailbox mailbox mailbox_with_domain is_domain local_part dot_string quoted_string between is_at_domain is_literal_byte is_lone_byte is_name_byte is_plain_byte is_route
+path_of_joe = refl
 
-other_bytes : map is_local_byte (codes "@ \"!/%") ≡ replicate 6 false
-other_bytes = refl
+path_of_ann : whole_path (codes "<ann@Example.com>") ≡ Some (To ann)
+unfolding whole_path path_of first_path path bare bracketed routed_mailbox mailbox mailbox_with_domain is_domain local_part dot_string quoted_string between is_at_domain is_literal_byte is_lone_byte is_name_byte is_plain_byte is_route
+path_of_ann = refl
 
-local_parts : map is_local_part (codes "." ∷ codes "j.doe+a" ∷ codes "j doe" ∷ [] ∷ []) ≡ true ∷ true ∷ false ∷ false ∷ []
-local_parts = refl
+null_path : whole_path (codes "<>") ≡ Some Null
+unfolding whole_path path_of first_path path bare bracketed routed_mailbox mailbox mailbox_with_domain is_domain local_part dot_string quoted_string between is_at_domain is_literal_byte is_lone_byte is_name_byte is_plain_byte is_route
+null_path = refl
 
-both_brackets : map bracketed (codes "<a@b>" ∷ codes "<>" ∷ []) ≡ Some (codes "a@b") ∷ Some [] ∷ []
-both_brackets = refl
+other_paths_of_joe : map whole_path (codes "joe@other.test" ∷ codes " \t<joe@other.test>" ∷ codes "<@a.test,@b.test:joe@other.test>" ∷ codes "<\"j\\oe\"@other.test>" ∷ [])
+    ≡ replicate 4 (Some (To joe))
+unfolding whole_path path_of first_path path bare bracketed routed_mailbox mailbox mailbox_with_domain is_domain local_part dot_string quoted_string between is_at_domain is_literal_byte is_lone_byte is_name_byte is_plain_byte is_route
+other_paths_of_joe = refl
 
-one_bracket : map bracketed (codes "<a@b" ∷ codes "a@b>" ∷ codes "<" ∷ codes "<a@b> x" ∷ [] ∷ []) ≡ replicate 5 None
-one_bracket = refl
+paths_with_something_after : map whole_path (codes "<joe@other.test> SIZE=1" ∷ codes "<joe@other.test>x" ∷ codes "joe@other.test x" ∷ codes "<> x" ∷ []) ≡ replicate 4 None
+unfolding whole_path path_of first_path path bare bracketed routed_mailbox mailbox mailbox_with_domain is_domain local_part dot_string quoted_string between is_at_domain is_literal_byte is_lone_byte is_name_byte is_plain_byte is_route
+paths_with_something_after = refl
 
-address_in_two_parts : address_of (codes "joe@other.test") ≡ Some joe
-address_in_two_parts = refl
-
-no_addresses : map address_of (codes "joe" ∷ codes "@other.test" ∷ codes "joe@" ∷ codes "joe@other.test." ∷ codes "a@b@c" ∷ []) ≡ replicate 5 None
-no_addresses = refl
-
-address_of_a_path : path_of (codes "<joe@other.test>") ≡ Some joe
-unfolding path_of
-address_of_a_path = refl
-
-no_paths : map path_of (codes "joe@other.test" ∷ codes "<>" ∷ codes "<a@[10.1.2.3]>" ∷ codes "<@c:a@b>" ∷ codes "<\"a\"@b>" ∷ []) ≡ replicate 5 None
-unfolding path_of
+no_paths : map whole_path ([] ∷ codes "<joe@other.test" ∷ codes "<joe@>" ∷ codes "<@b.test>" ∷ codes "<joe doe@b.test>" ∷ []) ≡ replicate 5 None
+unfolding whole_path path_of first_path path bare bracketed routed_mailbox mailbox mailbox_with_domain is_domain local_part dot_string quoted_string between is_at_domain is_literal_byte is_lone_byte is_name_byte is_plain_byte is_route
 no_paths = refl
+
+-- the domain that a recipient is judged by
+local_parts_that_route : map (λ local. is_routed (record { local = local; domain = codes "example.com" })) (codes "a@b" ∷ codes "b!a" ∷ codes "a%b" ∷ codes "a+b" ∷ [])
+    ≡ true ∷ true ∷ true ∷ false ∷ []
+local_parts_that_route = refl
+
+domains_that_are_judged : map judged_domain (ann ∷ record { local = codes "a%b"; domain = codes "example.com" } ∷ record { local = codes "a"; domain = [] } ∷ [])
+    ≡ codes "Example.com" ∷ [] ∷ [] ∷ []
+domains_that_are_judged = refl
+
+ends_of_the_relay_list : map (relay_end site) (ann ∷ joe ∷ record { local = codes "a%b"; domain = codes "example.com" } ∷ record { local = codes "a"; domain = [] } ∷ [])
+    ≡ Accept ∷ Deny 2 ∷ Deny 2 ∷ Deny 2 ∷ []
+unfolding relay_end end_of
+ends_of_the_relay_list = refl
 
 -- replies and log lines of a step
 one_reply : says (Line TooLong) idle ≡ record { replies = Line TooLong ∷ []; records = []; entries = []; next = idle }
@@ -129,24 +147,27 @@ helo_ends_a_transaction : helo begun (codes "a b") ≡ says (Helo Hello) idle
 helo_ends_a_transaction = refl
 
 -- MAIL
-sender_or_none : map (mail_address idle) (Some joe ∷ None ∷ []) ≡ says (Mail mail_reply.Taken) begun ∷ says (Mail mail_reply.BadSender) idle ∷ []
+sender_or_none : map (mail_from idle) (Some (To joe) ∷ Some Null ∷ None ∷ [])
+    ≡ says (Mail mail_reply.Taken) begun ∷ says (Mail mail_reply.Taken) bounce ∷ says (Mail mail_reply.BadSender) idle ∷ []
 sender_or_none = refl
 
 path_or_none : map (mail_path idle) (Some (codes "<joe@other.test>") ∷ Some (codes "<>") ∷ None ∷ [])
-    ≡ says (Mail mail_reply.Taken) begun ∷ says (Mail mail_reply.BadSender) idle ∷ says (Mail mail_reply.Syntax) idle ∷ []
-unfolding path_of
-path_or_none = refl
+    ≡ says (Mail mail_reply.Taken) begun ∷ says (Mail mail_reply.Taken) bounce ∷ says (Mail mail_reply.Syntax) idle ∷ []
+path_or_none = rw (path_of_joe, null_path)
 
 nested_before_syntax : mail begun (codes "x") ≡ says (Mail mail_reply.Nested) begun
 nested_before_syntax = refl
 
 mail_begins_a_transaction : mail idle (codes "from:<joe@other.test>") ≡ says (Mail mail_reply.Taken) begun
-unfolding after_keyword path_of
-mail_begins_a_transaction = refl
+unfolding after_keyword
+mail_begins_a_transaction = rw path_of_joe
 
 option_after_a_path : mail idle (codes "FROM:<joe@other.test> SIZE=1") ≡ says (Mail mail_reply.BadSender) idle
-unfolding after_keyword path_of
+unfolding after_keyword whole_path path_of first_path path bare bracketed routed_mailbox mailbox mailbox_with_domain is_domain local_part dot_string quoted_string between is_at_domain is_literal_byte is_lone_byte is_name_byte is_plain_byte is_route
 option_after_a_path = refl
+
+mail_in_a_bounce : mail bounce (codes "FROM:<joe@other.test>") ≡ says (Mail mail_reply.Nested) bounce
+mail_in_a_bounce = refl
 
 keyword_of_rcpt_in_mail : mail idle (codes "TO:<joe@other.test>") ≡ says (Mail mail_reply.Syntax) idle
 unfolding after_keyword
@@ -159,26 +180,27 @@ accepted_in_a_transaction = refl
 denial_leaves_it_open : judged begun joe (Deny 2) ≡ logs (Rcpt (rcpt_reply.RelayDenied joe)) (Denied 7 joe 2) begun
 denial_leaves_it_open = refl
 
-recipients : map (rcpt_address site begun) (Some ann ∷ Some joe ∷ None ∷ []) ≡ logs (Rcpt rcpt_reply.Taken) (Accepted 7 ann) begun
-    ∷ logs (Rcpt (rcpt_reply.RelayDenied joe)) (Denied 7 joe 2) begun ∷ says (Rcpt rcpt_reply.BadRecipient) begun ∷ []
-unfolding end_of
+recipients : map (rcpt_to site begun) (Some (To ann) ∷ Some (To joe) ∷ Some Null ∷ None ∷ [])
+    ≡ logs (Rcpt rcpt_reply.Taken) (Accepted 7 ann) begun ∷ logs (Rcpt (rcpt_reply.RelayDenied joe)) (Denied 7 joe 2) begun
+    ∷ says (Rcpt rcpt_reply.BadRecipient) begun ∷ says (Rcpt rcpt_reply.BadRecipient) begun ∷ []
+unfolding relay_end end_of
 recipients = refl
 
-recipient_paths : map (rcpt_path site begun) (Some (codes "<ann@Example.com>") ∷ Some (codes "<postmaster>") ∷ None ∷ [])
+recipient_paths : map (rcpt_path site begun) (Some (codes "<ann@Example.com>") ∷ Some (codes "<>") ∷ None ∷ [])
     ≡ logs (Rcpt rcpt_reply.Taken) (Accepted 7 ann) begun ∷ says (Rcpt rcpt_reply.BadRecipient) begun ∷ says (Rcpt rcpt_reply.Syntax) begun ∷ []
-unfolding path_of end_of
-recipient_paths = refl
+unfolding relay_end end_of
+recipient_paths = rw (path_of_ann, null_path)
+
+recipient_of_a_bounce : rcpt site bounce (codes "TO:<ann@Example.com>") ≡ logs (Rcpt rcpt_reply.Taken) (Accepted 7 ann) bounce
+unfolding after_keyword relay_end end_of
+recipient_of_a_bounce = rw path_of_ann
 
 need_of_mail_before_syntax : rcpt site idle (codes "x") ≡ says (Rcpt rcpt_reply.NeedMail) idle
 need_of_mail_before_syntax = refl
 
 space_after_a_keyword : rcpt site begun (codes "to: <joe@other.test>") ≡ logs (Rcpt (rcpt_reply.RelayDenied joe)) (Denied 7 joe 2) begun
-unfolding after_keyword path_of end_of
+unfolding after_keyword relay_end end_of whole_path path_of first_path path bare bracketed routed_mailbox mailbox mailbox_with_domain is_domain local_part dot_string quoted_string between is_at_domain is_literal_byte is_lone_byte is_name_byte is_plain_byte is_route
 space_after_a_keyword = refl
-
-path_without_brackets : rcpt site begun (codes "TO:ann@Example.com") ≡ says (Rcpt rcpt_reply.BadRecipient) begun
-unfolding after_keyword path_of
-path_without_brackets = refl
 
 keyword_of_mail_in_rcpt : rcpt site begun (codes "FROM:<ann@Example.com>") ≡ says (Rcpt rcpt_reply.Syntax) begun
 unfolding after_keyword
@@ -232,8 +254,8 @@ unfolding step
 long_line_is_numbered = refl
 
 log_line_has_the_next_number : (step site begun (codes "RCPT TO:<ann@Example.com>\r")).entries ≡ Accepted 8 ann ∷ []
-unfolding step command verb_of after_keyword path_of end_of
-log_line_has_the_next_number = refl
+unfolding step command verb_of after_keyword relay_end end_of
+log_line_has_the_next_number = rw path_of_ann
 
 -- sessions
 nothing_is_said : stays begun ≡ record { replies = []; records = []; entries = []; next = begun }
@@ -265,8 +287,8 @@ bytes_after_the_last_line = refl
 
 helo_between_mail_and_rcpt : (session site (codes "MAIL FROM:<joe@other.test>\nHELO a\nRCPT TO:<ann@Example.com>\n")).replies
     ≡ Mail mail_reply.Taken ∷ Helo Hello ∷ Rcpt rcpt_reply.NeedMail ∷ []
-unfolding steps step command verb_of after_keyword path_of lines
-helo_between_mail_and_rcpt = refl
+unfolding steps step command verb_of after_keyword lines
+helo_between_mail_and_rcpt = rw path_of_joe
 
 texts_of_a_step : replies_text site (before (says (Quit quit_reply.Syntax) idle) (says (Quit quit_reply.Bye) ended))
     ≡ codes "501 5.5.4 Syntax: QUIT\r\n221 2.0.0 Bye\r\n"
@@ -280,7 +302,7 @@ no_text : replies_text site (stays idle) ≡ []
 no_text = refl
 
 log_lines_of_a_step : map log_text (judged begun ann Accept ∷ stays begun ∷ []) ≡ codes "7 RCPT <ann@Example.com> accept\n" ∷ [] ∷ []
-unfolding log_line printed_line accepted_text recipient_text digits
+unfolding log_line printed_line accepted_text recipient_text printed_address printed_local printed_domain is_atom_byte digits
 log_lines_of_a_step = refl
 
 before_the_first_byte : fresh site ≡ record { setup = site; state = start; partial = [] }
@@ -335,13 +357,22 @@ unfolding mail_text
 texts_of_mail = refl
 
 text_of_a_denial : relay_denied_text ann ≡ codes "554 5.7.1 <ann@Example.com>: Relay access denied"
-unfolding relay_denied_text
+unfolding relay_denied_text printed_address printed_local printed_domain is_atom_byte
 text_of_a_denial = refl
+
+text_of_a_quoted_local_part : relay_denied_text (record { local = codes "a \"b"; domain = codes "example.com" })
+    ≡ codes "554 5.7.1 <\"a \\\"b\"@example.com>: Relay access denied"
+unfolding relay_denied_text escaped printed_address printed_local printed_domain is_atom_byte
+text_of_a_quoted_local_part = refl
+
+text_without_a_domain : relay_denied_text (record { local = codes "postmaster"; domain = [] }) ≡ codes "554 5.7.1 <postmaster>: Relay access denied"
+unfolding relay_denied_text printed_address printed_local printed_domain is_atom_byte
+text_without_a_domain = refl
 
 texts_of_rcpt : map rcpt_text (rcpt_reply.NeedMail ∷ rcpt_reply.Syntax ∷ rcpt_reply.BadRecipient ∷ rcpt_reply.RelayDenied joe ∷ rcpt_reply.Taken ∷ [])
     ≡ codes "503 5.5.1 Error: need MAIL command" ∷ codes "501 5.5.4 Syntax: RCPT TO:<address>"
     ∷ codes "501 5.1.3 Bad recipient address syntax" ∷ codes "554 5.7.1 <joe@other.test>: Relay access denied" ∷ codes "250 2.1.5 Ok" ∷ []
-unfolding rcpt_text relay_denied_text
+unfolding rcpt_text relay_denied_text printed_address printed_local printed_domain is_atom_byte
 texts_of_rcpt = refl
 
 texts_of_quit : map quit_text (quit_reply.Syntax ∷ quit_reply.Bye ∷ []) ≡ codes "501 5.5.4 Syntax: QUIT" ∷ codes "221 2.0.0 Bye" ∷ []
@@ -376,7 +407,7 @@ control_bytes_in_a_reply = refl
 
 -- log lines
 beginning_of_a_log_line : recipient_text 12 ann ≡ codes "12 RCPT <ann@Example.com> "
-unfolding recipient_text digits
+unfolding recipient_text printed_address printed_local printed_domain is_atom_byte digits
 beginning_of_a_log_line = refl
 
 what_denied : denial_text 10 ≡ codes "deny smtpd_relay_restrictions[10] reject_unauth_destination -"
@@ -384,14 +415,14 @@ unfolding denial_text digits
 what_denied = refl
 
 accepted_recipient : accepted_text 12 ann ≡ codes "12 RCPT <ann@Example.com> accept"
-unfolding accepted_text recipient_text digits
+unfolding accepted_text recipient_text printed_address printed_local printed_domain is_atom_byte digits
 accepted_recipient = refl
 
 denied_recipient : denied_text 3 joe 10 ≡ codes "3 RCPT <joe@other.test> deny smtpd_relay_restrictions[10] reject_unauth_destination -"
-unfolding denied_text recipient_text denial_text digits
+unfolding denied_text recipient_text printed_address printed_local printed_domain is_atom_byte denial_text digits
 denied_recipient = refl
 
 either_log_line : map log_line (Accepted 1 ann ∷ Denied 2 joe 1 ∷ []) ≡ codes "1 RCPT <ann@Example.com> accept\n"
     ∷ codes "2 RCPT <joe@other.test> deny smtpd_relay_restrictions[1] reject_unauth_destination -\n" ∷ []
-unfolding log_line printed_line accepted_text denied_text recipient_text denial_text digits
+unfolding log_line printed_line accepted_text denied_text recipient_text printed_address printed_local printed_domain is_atom_byte denial_text digits
 either_log_line = refl

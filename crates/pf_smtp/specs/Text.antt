@@ -5,7 +5,8 @@ use Rattle.std.specs.Fmt.{decimal}
 use Rattle.std.specs.List.{flat_map}
 use Rattle.pf_base.specs.Text.Ascii as ascii
 use Rattle.pf_base.specs.Text.Printing.{printed, printed_line}
-use Rattle.pf_smtp.specs.declared.path.Address.{Address}
+use Rattle.pf_addr.specs.Printed.{printed as printed_address}
+use Rattle.pf_addr.specs.declared.address.Address.{Address}
 use Rattle.pf_smtp.specs.declared.entry.Entry.{Entry}
 use Rattle.pf_smtp.specs.declared.entry.Entry.TheVariants.{Accepted, Denied}
 use Rattle.pf_smtp.specs.declared.record_line.RecordLine.{RecordLine}
@@ -50,7 +51,7 @@ mail_text mail.Taken = codes "250 2.1.0 Ok"
 
 -- to a recipient that is denied: the code is that of relay_domains_reject_code (postconf(5))
 unfoldable pub relay_denied_text : Address → List ℕ
-relay_denied_text address = joined (codes "554 5.7.1 <" ∷ address.local ∷ codes "@" ∷ address.domain ∷ codes ">: Relay access denied" ∷ [])
+relay_denied_text address = joined (codes "554 5.7.1 <" ∷ printed_address address ∷ codes ">: Relay access denied" ∷ [])
 
 -- to RCPT
 unfoldable pub rcpt_text : RcptReply → List ℕ
@@ -87,7 +88,7 @@ record_text line = elim line [ ]
 
 -- what a log line begins with: the number of the command's line, and its recipient
 unfoldable pub recipient_text : ℕ → Address → List ℕ
-recipient_text line recipient = joined (decimal line ∷ codes " RCPT <" ∷ recipient.local ∷ codes "@" ∷ recipient.domain ∷ codes "> " ∷ [])
+recipient_text line recipient = joined (decimal line ∷ codes " RCPT <" ∷ printed_address recipient ∷ codes "> " ∷ [])
 
 -- a recipient that was accepted
 unfoldable pub accepted_text : ℕ → Address → List ℕ

@@ -5,7 +5,8 @@ ghost use Rattle.std.specs.Option.{option_copied};
 ghost use Rattle.pf_base.specs.Text.Space.{is_space};
 ghost use Rattle.pf_smtp.specs.Command as command;
 
-use pf_base::{is_space, same_in_any_case, trimmed, without_leading_space};
+use pf_addr::{AddressRef, Path, path_ref};
+use pf_base::{is_space, same_in_any_case, trimmed};
 
 /// What a line asks for.
 #[derive(Clone, Copy, Debug, PartialEq, Eq)]
@@ -81,14 +82,27 @@ pub(crate) fn argument_of(line: &[u8]) -> &[u8]
     trimmed(after_first_word(line))
 }
 
-/// What comes after a keyword, in any case, and space; None where the argument begins otherwise.
+/// What comes after a keyword, in any case; None where the argument begins otherwise.
 #[tactic(auto, unfolding(crate::specs::Command::after_keyword))]
 pub(crate) fn after_keyword<'a>(keyword: &[u8], argument: &'a [u8]) -> Option<&'a [u8]>
     ensures { option_copied result ≡ command.after_keyword keyword.now argument.now }
 {
     let end = keyword.len().min(argument.len());
     if same_in_any_case(&argument[..end], keyword) {
-        Some(without_leading_space(&argument[end..]))
+        Some(&argument[end..])
+    } else {
+        None
+    }
+}
+
+/// The path that a text is after space; None where it is none, or something is after the path.
+#[tactic(auto, unfolding(crate::specs::Command::whole_path))]
+pub(crate) fn whole_path(text: &[u8]) -> Option<Path<AddressRef<'_>>>
+    ensures { result ≡ command.whole_path text.now }
+{
+    let read = path_ref(text)?;
+    if read.end == text.len() as u64 {
+        Some(read.path)
     } else {
         None
     }

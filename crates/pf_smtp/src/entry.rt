@@ -3,9 +3,9 @@ ghost use Rattle.std.specs.Prelude.{◌≡◌, ◌++◌, OnOk};
 ghost use Rattle.pf_base.specs.Text.Printing.{printed};
 ghost use Rattle.pf_smtp.specs.Text as spec;
 
-use crate::path::AddressRef;
 use crate::printing::add_all_printed;
 use itoa::Buffer;
+use pf_addr::AddressRef;
 use pf_base::{Bytes, NoMemory, add_printed};
 
 /// What was decided of a recipient, with the number of the command's line, from 1. A denial names the place, from 1, of
@@ -29,17 +29,9 @@ fn print_recipient(line: u64, recipient: &AddressRef<'_>, log: &mut Bytes) -> Re
     ensures { OnOk result (log.new ≡ log.old ++ printed (spec.recipient_text line recipient.now)) }
 {
     let mut digits = Buffer::new();
-    add_all_printed(
-        log,
-        &[
-            digits.format(line).as_bytes(),
-            b" RCPT <",
-            recipient.local(),
-            b"@",
-            recipient.domain(),
-            b"> ",
-        ],
-    )
+    add_all_printed(log, &[digits.format(line).as_bytes(), b" RCPT <"])?;
+    recipient.print(log)?;
+    add_printed(log, b"> ")
 }
 
 #[tactic(auto, unfolding(crate::specs::Text::accepted_text))]

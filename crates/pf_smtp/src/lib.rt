@@ -3,7 +3,6 @@
 
 mod command;
 mod entry;
-mod path;
 mod printing;
 mod progress;
 mod record_line;
@@ -13,7 +12,6 @@ mod state;
 mod step;
 
 pub use entry::Entry;
-pub use path::{Address, AddressRef};
 pub use progress::{LineBuffer, Progress};
 pub use record_line::RecordLine;
 pub use reply::{HeloReply, LineReply, MailReply, QuitReply, RcptReply, Reply};

@@ -3,8 +3,8 @@ ghost use Rattle.std.specs.Prelude.{◌≡◌, ◌++◌, OnOk};
 ghost use Rattle.pf_base.specs.Text.Printing.{printed};
 ghost use Rattle.pf_smtp.specs.Text as text;
 
-use crate::path::AddressRef;
 use crate::printing::add_all_printed;
+use pf_addr::AddressRef;
 use pf_base::{Bytes, NoMemory, add_printed};
 
 /// The replies to a line that is no command.
@@ -34,7 +34,7 @@ pub enum MailReply {
     Nested,
     /// The argument does not begin with `FROM:`.
     Syntax,
-    /// What follows is no path.
+    /// What follows is no path, or something is after it.
     BadSender,
     /// The sender was taken.
     Taken,
@@ -47,7 +47,7 @@ pub enum RcptReply<'a> {
     NeedMail,
     /// The argument does not begin with `TO:`.
     Syntax,
-    /// What follows is no path.
+    /// What follows is no path or the null path, or something is after it.
     BadRecipient,
     /// The relay list denied this recipient.
     RelayDenied(AddressRef<'a>),
@@ -121,16 +121,9 @@ fn print_helo(reply: HeloReply, host: &[u8], sent: &mut Bytes) -> Result<(), NoM
 fn print_relay_denied(address: &AddressRef<'_>, sent: &mut Bytes) -> Result<(), NoMemory>
     ensures { OnOk result (sent.new ≡ sent.old ++ printed (text.relay_denied_text address.now)) }
 {
-    add_all_printed(
-        sent,
-        &[
-            b"554 5.7.1 <",
-            address.local(),
-            b"@",
-            address.domain(),
-            b">: Relay access denied",
-        ],
-    )
+    add_printed(sent, b"554 5.7.1 <")?;
+    address.print(sent)?;
+    add_printed(sent, b">: Relay access denied")
 }
 
 #[tactic(auto, unfolding(crate::specs::Text::rcpt_text))]

@@ -1,7 +1,7 @@
 //! The state of a session, what it is set up with, and what a line gives.
 use crate::entry::Entry;
-use crate::path::Address;
 use crate::reply::Reply;
+use pf_addr::Path;
 use pf_base::Bytes;
 use pf_cidr::Addr;
 use pf_eval::PlainPolicy;
@@ -21,7 +21,7 @@ pub struct Setup {
 #[derive(Debug, PartialEq, Eq, Drop)]
 pub struct State {
     pub line: u64,
-    pub sender: Option<Address>,
+    pub sender: Option<Path>,
     pub ended: bool,
 }
 

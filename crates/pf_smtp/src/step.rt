@@ -3,11 +3,11 @@ ghost use Rattle.std.specs.Prelude.{◌≡◌, None, Some, IfOk};
 ghost use Rattle.pf_smtp.specs.Clauses.Gives.{Gives};
 ghost use Rattle.pf_smtp.specs.Step as step;
 
-use crate::command::{Verb, after_keyword, argument_of, verb_of};
+use crate::command::{Verb, after_keyword, argument_of, verb_of, whole_path};
 use crate::entry::Entry;
-use crate::path::path_of;
 use crate::reply::{HeloReply, LineReply, MailReply, QuitReply, RcptReply, Reply};
 use crate::state::{Answer, Setup, State};
+use pf_addr::{AddressRef, Path};
 use pf_base::{NoMemory, trimmed, without_return};
 use pf_eval::{PlainEnd, judge_plain};
 use std::alloc::Global;
@@ -32,6 +32,32 @@ fn logs<'a>(reply: Reply<'a>, logged: Entry<'a>) -> Answer<'a>
     }
 }
 
+// Whether the local part names a site that the mail goes on to.
+fn is_routed(address: &AddressRef<'_>) -> bool
+    ensures { result ≡ step.is_routed address.now }
+{
+    address.local_has(b'@') || address.local_has(b'!') || address.local_has(b'%')
+}
+
+// The domain that a recipient is judged by; that of a routed address says nothing.
+fn judged_domain<'a>(address: &'a AddressRef<'_>) -> &'a [u8]
+    ensures { result.now ≡ step.judged_domain address.now }
+{
+    if is_routed(address) {
+        &[]
+    } else {
+        address.domain()
+    }
+}
+
+// How the relay list ends for a recipient.
+#[tactic(auto, unfolding(crate::specs::Step::relay_end))]
+fn relay_end(setup: &Setup, recipient: &AddressRef<'_>) -> PlainEnd
+    ensures { result ≡ step.relay_end setup.now recipient.now }
+{
+    judge_plain(&setup.policy, &setup.client, judged_domain(recipient))
+}
+
 impl State {
     fn helo<'a>(&mut self, argument: &'a [u8]) -> Answer<'a>
         ensures { Gives (step.helo self.old argument.now) self.new result }
@@ -52,10 +78,10 @@ impl State {
         let Some(text) = after_keyword(b"FROM:", argument) else {
             return Ok(says(Reply::Mail(MailReply::Syntax)));
         };
-        let Some(sender) = path_of(text) else {
+        let Some(sender) = whole_path(text) else {
             return Ok(says(Reply::Mail(MailReply::BadSender)));
         };
-        self.sender = Some(sender.to_address(alloc)?);
+        self.sender = Some(sender.to_path(alloc)?);
         Ok(says(Reply::Mail(MailReply::Taken)))
     }
 
@@ -68,11 +94,11 @@ impl State {
         let Some(text) = after_keyword(b"TO:", argument) else {
             return says(Reply::Rcpt(RcptReply::Syntax));
         };
-        let Some(recipient) = path_of(text) else {
+        let Some(Path::To(recipient)) = whole_path(text) else {
             return says(Reply::Rcpt(RcptReply::BadRecipient));
         };
         let line = self.line;
-        match judge_plain(&setup.policy, &setup.client, recipient.domain()) {
+        match relay_end(setup, &recipient) {
             PlainEnd::Accept => logs(
                 Reply::Rcpt(RcptReply::Taken),
                 Entry::Accepted { line, recipient },

@@ -12,6 +12,11 @@ use Rattle.pf_base.specs.declared.refused.Refused.{Refused}
 use Rattle.pf_base.specs.declared.outside.texts.SinkFault.TheVariants as sink
 use Rattle.pf_base.specs.declared.outside.texts.Texts.{Texts}
 use Rattle.pf_catalogue.specs.Catalogue.{catalogue}
+use Rattle.pf_addr.specs.Grammar.{is_at_domain, is_literal_byte, is_lone_byte, is_name_byte, is_plain_byte, is_route}
+use Rattle.pf_addr.specs.Printed.{is_atom_byte, printed as printed_address, printed_domain, printed_local}
+use Rattle.pf_addr.specs.Spelled.{bare, between, bracketed, dot_string, first_path, is_domain, local_part, mailbox, mailbox_with_domain, path, path_of, quoted_string}
+use Rattle.pf_addr.specs.Spelled.{routed_mailbox}
+use Rattle.pf_addr.specs.declared.address.Path.TheVariants.{To}
 use Rattle.pf_catalogue.specs.declared.value.Value.TheVariants.{Text, Items}
 use Rattle.pf_cidr.specs.Addresses.{address_of}
 use Rattle.pf_cidr.specs.Nets.{Network, host_of as net_host, net_of, written_net}
@@ -25,10 +30,9 @@ use Rattle.pf_expand.specs.Names.{name_value}
 use Rattle.pf_maincf.specs.Settings.{Conf, conf_of}
 use Rattle.pf_params.specs.Parameters.{reading_of}
 use Rattle.pf_params.specs.declared.readings.Reading.{Reading}
-use Rattle.pf_smtp.specs.Command.{after_keyword, verb_of}
-use Rattle.pf_smtp.specs.Path.{path_of}
+use Rattle.pf_smtp.specs.Command.{after_keyword, verb_of, whole_path}
 use Rattle.pf_smtp.specs.Session.{steps}
-use Rattle.pf_smtp.specs.Step.{command, step}
+use Rattle.pf_smtp.specs.Step.{command, relay_end, step}
 use Rattle.pf_smtp.specs.Text.{accepted_text, denial_text, denied_text, greeting_of, helo_text, log_line, mail_text, quit_text, rcpt_text, recipient_text, relay_denied_text, text_of}
 use Rattle.pf_top.specs.Opening.{opening_of, reading_named, setup_of}
 use Rattle.pf_top.specs.Profile.{cause_from, is_within, parameter_refusal}
@@ -234,13 +238,21 @@ greeting_alone = refl
 abbrev served : List ℕ
 served = codes "HELO c.test\r\nMAIL FROM:<a@b.test>\r\nRCPT TO:<joe@other.test>\r\nQUIT\r\nQUIT\r\n"
 
+sender_served : whole_path (codes "<a@b.test>") ≡ Some (To (record { local = codes "a"; domain = codes "b.test" }))
+unfolding whole_path path_of first_path path bare bracketed routed_mailbox mailbox mailbox_with_domain is_domain local_part dot_string quoted_string between is_at_domain is_literal_byte is_lone_byte is_name_byte is_plain_byte is_route
+sender_served = refl
+
+recipient_served : whole_path (codes "<joe@other.test>") ≡ Some (To (record { local = codes "joe"; domain = codes "other.test" }))
+unfolding whole_path path_of first_path path bare bracketed routed_mailbox mailbox mailbox_with_domain is_domain local_part dot_string quoted_string between is_at_domain is_literal_byte is_lone_byte is_name_byte is_plain_byte is_route
+recipient_served = refl
+
 texts_for_an_own_client : spoken (V4 167838211) served ≡ record {
   out = codes "220 mx.example.com ESMTP Postfix\r\n250 mx.example.com\r\n250 2.1.0 Ok\r\n250 2.1.5 Ok\r\n221 2.0.0 Bye\r\n";
   mail = [];
   log = codes "3 RCPT <joe@other.test> accept\n";
 }
-unfolding greeting_of steps step command verb_of after_keyword path_of end_of text_of helo_text mail_text rcpt_text quit_text log_line printed_line accepted_text recipient_text digits lines
-texts_for_an_own_client = refl
+unfolding greeting_of steps step command verb_of after_keyword relay_end end_of text_of helo_text mail_text rcpt_text quit_text log_line printed_line accepted_text recipient_text printed_address printed_local printed_domain is_atom_byte digits lines
+texts_for_an_own_client = rw (sender_served, recipient_served)
 
 texts_for_a_stranger : spoken (V4 3221225993) served ≡ record {
   out = codes "220 mx.example.com ESMTP Postfix\r\n250 mx.example.com\r\n250 2.1.0 Ok\r\n"
@@ -248,12 +260,12 @@ texts_for_a_stranger : spoken (V4 3221225993) served ≡ record {
   mail = [];
   log = codes "3 RCPT <joe@other.test> deny smtpd_relay_restrictions[2] reject_unauth_destination -\n";
 }
-unfolding greeting_of steps step command verb_of after_keyword path_of end_of text_of helo_text mail_text rcpt_text relay_denied_text quit_text log_line printed_line denied_text recipient_text denial_text digits lines
-texts_for_a_stranger = refl
+unfolding greeting_of steps step command verb_of after_keyword relay_end end_of text_of helo_text mail_text rcpt_text relay_denied_text quit_text log_line printed_line denied_text recipient_text denial_text printed_address printed_local printed_domain is_atom_byte digits lines
+texts_for_a_stranger = rw (sender_served, recipient_served)
 
 over_behind_quit : map (speech_of (setup_of site (V4 167838211))).over (served ∷ codes "HELO c.test\r\nQUIT" ∷ [] ∷ []) ≡ true ∷ false ∷ false ∷ []
-unfolding steps step command verb_of after_keyword path_of end_of lines
-over_behind_quit = refl
+unfolding steps step command verb_of after_keyword relay_end end_of lines
+over_behind_quit = rw (sender_served, recipient_served)
 
 -- runs
 usage_of_the_words : usage_line ≡ codes "usage: postgate smtpd|relaycheck|postconf|postmap|workload\n"

@@ -1,25 +1,14 @@
 -- The lengths by which a path is read: words of contracts between the grammar and the code. A length of 0 says that there is none.
-use Rattle.std.specs.Prelude.{ℕ, ◌+◌, ◌-◌, ◌==◌, ◌&&◌, Bool, true, false, not, nat_lt, nat_le, List, [], ◌∷◌, Option, Some, None, length, take, drop, slice_index, if◌then◌else◌}
+use Rattle.std.specs.Prelude.{ℕ, ◌+◌, ◌-◌, ◌==◌, ◌&&◌, false, nat_lt, nat_le, List, [], ◌∷◌, Option, Some, None, length, take, drop, slice_index, if◌then◌else◌}
 use Rattle.std.specs.List.{before_first, prefix_len, take_while}
-use Rattle.std.specs.Option.{option_map}
 use Rattle.pf_base.specs.Text.Ascii as ascii
 use Rattle.pf_base.specs.Text.Space.{is_space}
+use Rattle.pf_addr.specs.Clauses.Quoted.{closing_quote, unquoted}
 use Rattle.pf_addr.specs.Grammar.{is_end, is_literal_byte, is_name_byte, is_plain_byte, is_route}
 use Rattle.pf_addr.specs.declared.address.Address.{Address}
 use Rattle.pf_addr.specs.declared.address.Path.TheVariants.{Null, To}
 use Rattle.pf_addr.specs.declared.address.PathRead.{PathRead}
 use Rattle.pf_addr.specs.declared.mailbox.Mailbox.{Mailbox}
-
--- the place of the quote that closes a quoted string, in what is after its first quote; taken says that a backslash comes before it
-abbrev pub closing_quote : Bool → List ℕ → Option ℕ
-closing_quote taken [] = None
-closing_quote taken (b ∷ text) =
-    if not taken && b == ascii.double_quote then Some 0 else option_map (λ n. n + 1) (closing_quote (not taken && b == ascii.backslash) text)
-
--- what is in a quoted string, without its backslashes
-abbrev pub unquoted : Bool → List ℕ → List ℕ
-unquoted taken [] = []
-unquoted taken (b ∷ text) = if not taken && b == ascii.backslash then unquoted true text else b ∷ unquoted false text
 
 -- the place after the last at sign
 abbrev pub behind_at : List ℕ → ℕ
@@ -41,9 +30,13 @@ quoted_len_of (Some n) = n + 2
 unfoldable pub local_len : List ℕ → ℕ
 local_len text = if slice_index text 0 == ascii.double_quote then quoted_len_of (closing_quote false (drop 1 text)) else plain_len text
 
+-- what is between the quotes of a local part, or all of one that has none
+unfoldable pub content_of : List ℕ → List ℕ
+content_of spelled = if slice_index spelled 0 == ascii.double_quote then take (length spelled - 2) (drop 1 spelled) else spelled
+
 -- what a local part means that is spelled so
 unfoldable pub local_of : List ℕ → List ℕ
-local_of spelled = if slice_index spelled 0 == ascii.double_quote then unquoted false (take (length spelled - 2) (drop 1 spelled)) else spelled
+local_of spelled = unquoted false (content_of spelled)
 
 abbrev pub literal_len_of : List ℕ → ℕ → ℕ
 literal_len_of inside n = if slice_index inside n == ascii.right_bracket then n + 2 else 0
@@ -90,38 +83,38 @@ unfoldable pub route_len : List ℕ → ℕ
 route_len text = route_len_of text (before_first (λ b. b == ascii.colon) text)
 
 -- the same path, after so many bytes
-abbrev pub behind : ℕ → Option PathRead → Option PathRead
+abbrev pub behind : ℕ → Option (PathRead Address) → Option (PathRead Address)
 behind n None = None
 behind n (Some read) = Some (record { path = read.path; end = n + read.end })
 
-abbrev pub bare_of : List ℕ → Option Mailbox → Option PathRead
+abbrev pub bare_of : List ℕ → Option Mailbox → Option (PathRead Address)
 bare_of text None = None
 bare_of text (Some m) = if is_end (drop (mailbox_len m) text) then Some (record { path = To (address_of text m); end = mailbox_len m }) else None
 
 -- a path without brackets
-unfoldable pub bare : List ℕ → Option PathRead
+unfoldable pub bare : List ℕ → Option (PathRead Address)
 bare text = bare_of text (mailbox text)
 
-abbrev pub closed_of : List ℕ → Option Mailbox → Option PathRead
+abbrev pub closed_of : List ℕ → Option Mailbox → Option (PathRead Address)
 closed_of text None = None
 closed_of text (Some m) =
     if slice_index text (mailbox_len m) == ascii.greater_than_sign
     then Some (record { path = To (address_of text m); end = mailbox_len m + 1 }) else None
 
 -- a mailbox and the bracket after it
-unfoldable pub closed : List ℕ → Option PathRead
+unfoldable pub closed : List ℕ → Option (PathRead Address)
 closed text = closed_of text (mailbox text)
 
 -- what is after the first bracket of a path
-unfoldable pub bracketed : List ℕ → Option PathRead
+unfoldable pub bracketed : List ℕ → Option (PathRead Address)
 bracketed text =
     if slice_index text 0 == ascii.greater_than_sign then Some (record { path = Null; end = 1 })
     else behind (route_len text) (closed (drop (route_len text) text))
 
 -- a path
-unfoldable pub path : List ℕ → Option PathRead
+unfoldable pub path : List ℕ → Option (PathRead Address)
 path text = if slice_index text 0 == ascii.less_than_sign then behind 1 (bracketed (drop 1 text)) else bare text
 
 -- a path after space
-unfoldable pub reading : List ℕ → Option PathRead
+unfoldable pub reading : List ℕ → Option (PathRead Address)
 reading text = behind (prefix_len is_space text) (path (drop (prefix_len is_space text) text))
