@@ -96,15 +96,18 @@ one_address text net clear is = let read : Reads text (Ok net) = subst (Reads te
 octet_parts : (a b c d e f g h : ℕ) → a < 256 → b < 256 → c < 256 → d < 256 → e < 256 → f < 256 → g < 256 → h < 256
     → from_be_bytes w32 (a ∷ b ∷ c ∷ d ∷ []) ≡ from_be_bytes w32 (e ∷ f ∷ g ∷ h ∷ [])
     → (a ≡ e) × (b ≡ f) × (c ≡ g) × (d ≡ h)
-octet_parts a b c d e f g h la lb lc ld le lf lg lh same =
-    (omega (arith, la, lb, lc, ld, le, lf, lg, lh, same), omega (arith, la, lb, lc, ld, le, lf, lg, lh, same),
-     omega (arith, la, lb, lc, ld, le, lf, lg, lh, same), omega (arith, la, lb, lc, ld, le, lf, lg, lh, same))
+octet_parts a b c d e f g h la lb lc ld le lf lg lh same = (
+  omega (arith, la, lb, lc, ld, le, lf, lg, lh, same),
+  omega (arith, la, lb, lc, ld, le, lf, lg, lh, same),
+  omega (arith, la, lb, lc, ld, le, lf, lg, lh, same),
+  omega (arith, la, lb, lc, ld, le, lf, lg, lh, same),
+)
 
 same_text : (text key : List ℕ) (ip other : Ipv4Addr) → IsDotted text ip.octets → IsDotted key other.octets → ipv4_bits ip ≡ ipv4_bits other → text ≡ key
 unfolding ipv4_bits
 same_text text key ip other x y bits =
     let values : from_be_bytes w32 (x.a ∷ x.b ∷ x.c ∷ x.d ∷ []) ≡ from_be_bytes w32 (y.a ∷ y.b ∷ y.c ∷ y.d ∷ []) =
-        ap (from_be_bytes w32) (sym x.value) ∙ bits ∙ ap (from_be_bytes w32) y.value in
+    ap (from_be_bytes w32) (sym x.value) ∙ bits ∙ ap (from_be_bytes w32) y.value in
     let parts = octet_parts x.a x.b x.c x.d y.a y.b y.c y.d x.fit.0 x.fit.1 x.fit.2 x.fit.3 y.fit.0 y.fit.1 y.fit.2 y.fit.3 values in
     x.spelled
     ∙ (λ i. decimal (parts.0 i) ++ codes "." ++ decimal (parts.1 i) ++ codes "." ++ decimal (parts.2 i) ++ codes "." ++ decimal (parts.3 i))

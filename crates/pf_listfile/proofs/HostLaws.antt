@@ -53,9 +53,9 @@ none_in byte foreign [] is = refl
 none_in byte foreign (b ∷ name) is =
     either_way (is_dot b)
     (λ dot. let rest : of_labels (slice_split is_dot name) ≡ true = rw dot at is in
-        rw (other_byte byte b is_dot foreign.parts_none dot) (none_in byte foreign name rest))
+    rw (other_byte byte b is_dot foreign.parts_none dot) (none_in byte foreign name rest))
     (λ other. let two = onto_bytes b (slice_split is_dot name) (rw other at is) in
-        rw (other_byte byte b is_label_byte foreign.in_no_label two.0) (none_in byte foreign name two.1))
+    rw (other_byte byte b is_label_byte foreign.in_no_label two.0) (none_in byte foreign name two.1))
 
 -- it is not in one
 pub none_in_name : (byte : ℕ) → Foreign byte → (name : List ℕ) → is_host_name name ≡ true → list_any (λ b. b == byte) name ≡ false
