@@ -14,6 +14,7 @@ use Rattle.std.specs.declared.net.ip_addr.IpAddr.TheVariants as family
 use Rattle.std.specs.declared.net.ipv4_addr.Ipv4Addr.{Ipv4Addr}
 use Rattle.std.specs.Net.Addr.{ipv4_bits, segments_of}
 use Rattle.std.specs.Net.Grammar.{IsColonHex, IsDotted, IsGroupsAfter, IsIpText}
+use Rattle.std.specs.Net.Text.{dotted_text}
 use Rattle.pf_base.specs.Text.Ascii as ascii
 use Rattle.pf_base.specs.Text.Names.{folded, is_host_name}
 use Rattle.pf_cidr.proofs.AddressLaws.{address_sound}
@@ -58,7 +59,7 @@ groups_colon text (s ∷ t ∷ segments) (inr g) eight =
 
 hex_colon : (text segments : List ℕ) → IsColonHex text segments → has 58 text ≡ true
 hex_colon text segments (inl groups) = groups_colon text segments groups.0 groups.1
-hex_colon text segments (inr e) = subst (λ x. has 58 x ≡ true) (sym e.spelled) (has_behind 58 e.head_text (codes "::" ++ e.tail_text) refl)
+hex_colon text segments (inr e) = subst (λ x. has 58 x ≡ true) (sym e.spelled) (has_before 58 (e.head_text ++ codes "::") e.tail_text (has_behind 58 e.head_text (codes "::") refl))
 
 -- what a net is written as that has no slash, bracket or colon
 record Plain (text : List ℕ) : Type 0 where
@@ -67,7 +68,7 @@ record Plain (text : List ℕ) : Type 0 where
   colon : has 58 text ≡ false
 
 both_ways : (byte : ℕ) (text : List ℕ) → has byte text ≡ false → has byte text ≡ true → ⊥
-both_ways byte text no yes = cc
+both_ways byte text without with_one = cc
 
 record OneAddress (text : List ℕ) (net : Network) : Type 0 where
   ip : Ipv4Addr
@@ -159,22 +160,37 @@ name_has_net text is net key written has =
     let equal : bytes_eq (folded text) (folded key) ≡ true = (bytes_eq-Decides (folded text) (folded key)).1 (ap folded same) in
     rw equal refl
 
--- a host name after a dot writes none
-first_digit : (a : ℕ) (text rest : List ℕ) → a < 256 → ascii.dot ∷ text ≡ decimal a ++ rest → ⊥
-first_digit a text rest small is = by (decimal a) (decimal_is_IsNumeral a (omega (arith, small))).0 is where
-  by : (digits : List ℕ) → IsNumeral 10 digits → ascii.dot ∷ text ≡ digits ++ rest → ⊥
-  by [] numeral e = absurd (omega (arith, numeral.0))
-  by (b ∷ digits) numeral e =
-      let dot : ascii.dot ≡ b = cc in
-      let value : digit_value ascii.dot < 10 = subst (λ x. digit_value x < 10) (sym dot) numeral.1.0 in
-      omega (arith, value)
+-- a host name after a dot writes none: an address begins with a digit
+abbrev BeginsWithDigit : List ℕ → Type 0
+BeginsWithDigit [] = ⊥
+BeginsWithDigit (b ∷ text) = digit_value b < 10
+
+longer : (text more : List ℕ) → BeginsWithDigit text → BeginsWithDigit (text ++ more)
+longer [] more digit = absurd digit
+longer (b ∷ text) more digit = digit
+
+first_digit : (a : ℕ) → a < 256 → BeginsWithDigit (decimal a)
+first_digit a small = by (decimal a) (decimal_is_IsNumeral a (omega (arith, small))).0 where
+  by : (digits : List ℕ) → IsNumeral 10 digits → BeginsWithDigit digits
+  by [] numeral = absurd (omega (arith, numeral.0))
+  by (b ∷ digits) numeral = numeral.1.0
+
+begins_dotted : (a b c d : ℕ) → a < 256 → BeginsWithDigit (dotted_text a b c d)
+begins_dotted a b c d small =
+    longer _ (decimal d) (longer _ (codes ".") (longer _ (decimal c) (longer _ (codes ".") (longer _ (decimal b) (longer _ (codes ".") (first_digit a small))))))
+
+no_dot_first : (text other : List ℕ) → ascii.dot ∷ text ≡ other → BeginsWithDigit other → ⊥
+no_dot_first text other is digit = no_digit (subst BeginsWithDigit (sym is) digit) where
+  no_digit : digit_value ascii.dot < 10 → ⊥
+  no_digit value = omega (arith, value)
 
 pub below_has_net : (text : List ℕ) → is_host_name text ≡ true → HasNetOf (ascii.dot ∷ text) (pattern.Below (folded text))
 below_has_net text is net key written has =
     let name = plain_name text is in
     let clear : Plain (ascii.dot ∷ text) = record { slash = name.slash; bracket = name.bracket; colon = name.colon } in
     let one = one_address (ascii.dot ∷ text) net clear written in
-    absurd (first_digit one.dotted.a text _ one.dotted.fit.0 one.dotted.spelled)
+    absurd (no_dot_first text (dotted_text one.dotted.a one.dotted.b one.dotted.c one.dotted.d) one.dotted.spelled
+    (begins_dotted one.dotted.a one.dotted.b one.dotted.c one.dotted.d one.dotted.fit.0))
 
 -- and a net has its own
 pub net_has_net : (text : List ℕ) (net : Network) → net_of text ≡ Ok net → HasNetOf text (pattern.Net net)

@@ -22,9 +22,7 @@ abbrev of_labels : List (List ℕ) → Bool
 of_labels parts = list_all (list_all is_label_byte) parts
 
 label_bytes : (label : List ℕ) → is_label label ≡ true → list_all is_label_byte label ≡ true
-label_bytes label is =
-    (and_parts (nat_le (length label) 63) (list_all is_label_byte label)
-    (and_parts (nat_lt 0 (length label)) (nat_le (length label) 63 && list_all is_label_byte label) is).1).1
+label_bytes label is = (and_parts (nat_lt 0 (length label) && nat_le (length label) 63) (list_all is_label_byte label) is).1
 
 labels_bytes : (parts : List (List ℕ)) → list_all is_label parts ≡ true → of_labels parts ≡ true
 labels_bytes [] is = refl

@@ -72,10 +72,11 @@ pub(crate) fn open_table<F: Files>(
 ) -> Result<Tables, OpenFault>
     ensures { OpensWith (F.known files.old) (F.known files.new) patterns.old patterns.new (λ event all. opened (spec.tables_in event words.now all)) result }
 {
-    if is_no_table(words.table.as_slice()) {
-        return Err(no_table(alloc, words.table.as_slice()));
+    let table = words.table.as_slice();
+    if is_no_table(table) {
+        return Err(no_table(alloc, table));
     }
-    let Ok(specs) = specs_of(alloc, words.table.as_slice()) else {
+    let Ok(specs) = specs_of(alloc, table) else {
         return Err(OpenFault::NoMemory);
     };
     Tables::open(alloc, &specs, words.folded, files, patterns)
