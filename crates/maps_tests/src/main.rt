@@ -58,6 +58,7 @@ fn add_node(alloc: Global, said: &mut Bytes, node: &SpecNode) -> Result<(), NoMe
         SpecNode::Inline(text) => add_field(said, &[b"inline ", text.as_slice()]),
         SpecNode::Fixed(value) => add_field(said, &[b"static ", value.as_slice()]),
         SpecNode::Fail => add_field(said, &[b"fail"]),
+        SpecNode::ListFile(name) => add_field(said, &[b"list ", name.as_slice()]),
         SpecNode::Union(count) => add_number(alloc, said, b"unionmap ", *count),
         SpecNode::Pipe(count) => add_number(alloc, said, b"pipemap ", *count),
     }

@@ -16,6 +16,7 @@ use Rattle.pf_asks.specs.declared.lookup.TableFault.TheVariants.{Fails, NoMemory
 use Rattle.pf_cidr.specs.Addresses.{address_of}
 use Rattle.pf_cidr.specs.Tables.{Table, first_rule}
 use Rattle.pf_cidr.specs.declared.address.Addr.{Addr}
+use Rattle.pf_listfile.proofs.ResultLaws.{list_has_all}
 use Rattle.pf_pcre.proofs.ResultLaws as pcre
 use Rattle.pf_table.proofs.ResultLaws.{fail_has_all, keyed_has_all, static_has_all}
 use Rattle.pf_maps.proofs.CdbLaws.{cdb_has_all}
@@ -263,6 +264,7 @@ all_have (node.Pcre table ∷ nodes) = (pcre.has_all table, all_have nodes)
 all_have (node.Inline table ∷ nodes) = (keyed_has_all table, all_have nodes)
 all_have (node.Fixed value ∷ nodes) = (static_has_all value, all_have nodes)
 all_have (node.Fail ∷ nodes) = (fail_has_all, all_have nodes)
+all_have (node.ListFile items ∷ nodes) = (list_has_all items, all_have nodes)
 all_have (node.Union count ∷ nodes) =
     (union_has_all (firsts count (meanings_of nodes)) (firsts_have count (meanings_of nodes) (all_have nodes)), dropped_have count (meanings_of nodes) (all_have nodes))
 all_have (node.Pipe count ∷ nodes) =

@@ -1,5 +1,5 @@
 -- Worked examples of the definitions, each by computation.
-use Rattle.std.proofs.Common.{◌≡◌, ◌++◌, ℕ, true, List, [], ◌∷◌, None, Some, Ok, Err, refl, codes}
+use Rattle.std.proofs.Common.{◌≡◌, ◌++◌, ℕ, true, false, List, [], ◌∷◌, None, Some, Ok, Err, refl, codes}
 use Rattle.std.specs.Str.{chars, is_utf8}
 use Rattle.pf_base.specs.TableTexts.{TableTexts}
 use Rattle.pf_base.specs.Text.Words.{words_of}
@@ -12,6 +12,8 @@ use Rattle.pf_asks.specs.declared.lookup.Results.TheVariants.{Listed, Anything}
 use Rattle.pf_asks.specs.declared.lookup.TableFault.TheVariants.{Fails}
 use Rattle.pf_base.specs.Refusal.{refused}
 use Rattle.pf_cdb.specs.Asked.{ends_in_null, without_null}
+use Rattle.pf_listfile.specs.ListFile.{items_of}
+use Rattle.pf_listfile.specs.declared.item.Pattern.TheVariants as pattern
 use Rattle.pf_maps.specs.Cdb.{cdb_read, damage_text, values_of}
 use Rattle.pf_maps.specs.Meanings.{meaning_of}
 use Rattle.pf_maps.specs.Opening.{at_first, at_others, pcre_opened, tables_opened}
@@ -42,6 +44,14 @@ of_no_known_type = refl
 of_no_member : spec_of (codes "main.cf") 7 (codes "pipemap:{}") ≡ Err (refused (codes "main.cf") 7 C9 (codes "pipemap:{}"))
 unfolding nodes_of leaf group_named words_of
 of_no_member = refl
+
+of_a_list_file : spec_of (codes "main.cf") 7 (codes "/a:b") ≡ Ok (spec_node.ListFile (codes "/a:b") ∷ [])
+unfolding is_utf8 chars lib.Utf8.encode
+of_a_list_file = refl
+
+list_file_in_a_union : spec_of (codes "main.cf") 7 (codes "unionmap:{/a}") ≡ Err (refused (codes "main.cf") 7 C9 (codes "unionmap:{/a}"))
+unfolding nodes_of leaf group_named words_of
+list_file_in_a_union = refl
 
 -- unions and pipes that may be nested once
 once_alone : nodes_of 1 (codes "unionmap:{static:a}") ≡ Some (spec_node.Union 1 ∷ spec_node.Fixed (codes "a") ∷ [])
@@ -128,6 +138,26 @@ refused_before_the_read = refl
 read_that_fails : tables_opened (Some (0, (1, events.read_fails))) [] true absent_and_unreadable ≡ Err (unopened.fails (codes "absent"))
 unfolding nodes_of leaf group_named words_of is_utf8 chars lib.Utf8.encode
 read_that_fails = refl
+
+-- a list file, of which the first item that matches decides
+abbrev list_file : Node
+list_file =
+    node.ListFile (
+    record { pattern = pattern.Name (codes "a.test"); excludes = true }
+    ∷ record { pattern = pattern.Below (codes "test"); excludes = false }
+    ∷ []
+    )
+
+items_of_a_file : tables_opened None (pair (codes "/l") (codes "!a.test .test") ∷ []) true (record { file = codes "main.cf"; texts = text 7 (codes "/l") ∷ [] })
+    ≡ Ok ((list_file ∷ []) ∷ [])
+unfolding items_of words_of is_utf8 chars lib.Utf8.encode
+items_of_a_file = refl
+
+first_item_decides : answer_of (meaning_of (list_file ∷ [])) (codes "a.test") ≡ Ok (Value (codes "no"))
+first_item_decides = refl
+
+key_of_a_list_of_domains : answer_of (meaning_of (list_file ∷ [])) (codes "@b.test") ≡ Ok Absent
+key_of_a_list_of_domains = refl
 
 -- of the file of a table of patterns, no line of which is too large
 no_such_file : pcre_opened None [] (record { file = codes "main.cf"; line = 7 }) (codes "t") ≡ Err (unopened.refuses (refused (codes "main.cf") 7 C10 (codes "t")))

@@ -1,5 +1,5 @@
 -- Refusals that name the size of a pattern: only those of tables of patterns do.
-use Rattle.std.proofs.Common.{◌≡◌, ◌≢◌, ℕ, Bool, false, List, [], ◌∷◌, Option, None, Some, Result, Ok, Err, codes, refl, sym, ap, ◌∙◌, arith}
+use Rattle.std.proofs.Common.{◌≡◌, ◌≢◌, ◌++◌, ℕ, Bool, false, List, [], ◌∷◌, Option, None, Some, Result, Ok, Err, codes, refl, sym, ap, ◌∙◌, arith}
 use Rattle.std.specs.Str.{bytes_eq}
 use Rattle.pf_base.specs.Results.{◌>>=◌}
 use Rattle.pf_base.specs.Clauses.Faults.{as_fault}
@@ -16,6 +16,8 @@ use Rattle.pf_cdb.specs.declared.damage.Damage.{Damage}
 use Rattle.pf_cdb.specs.declared.damage.Damage.TheVariants as damage
 use Rattle.pf_cidr.specs.Clauses.Faults as cidr_faults
 use Rattle.pf_cidr.specs.Tables as cidr
+use Rattle.pf_listfile.specs.ListFile as list_file
+use Rattle.pf_listfile.specs.declared.item.Item.{Item}
 use Rattle.pf_pcre.specs.Tables as pcre
 use Rattle.pf_table.specs.Inline as inline
 use Rattle.pf_table.specs.Line.{pair_of, reason_text}
@@ -26,7 +28,7 @@ use Rattle.pf_maps.specs.Cdb as cdb
 use Rattle.pf_maps.specs.Clauses.Opened.{fault_of, is_of_size, names_size}
 use Rattle.pf_maps.specs.Opening.{inline_opened}
 use Rattle.pf_maps.specs.Specification as naming
-use Rattle.pf_maps.specs.Specification.{most_levels, nodes_of, spec_of}
+use Rattle.pf_maps.specs.Specification.{named, spec_of}
 use Rattle.pf_maps.specs.declared.opening.Place.{Place}
 use Rattle.pf_maps.specs.declared.specification.SpecNode.{SpecNode}
 
@@ -91,6 +93,25 @@ small_text file folds repeats bytes =
     (λ lines. small_step (text.entries_in file folds repeats lines) _
     (small_step (text.lines_read file folds lines) _ (small_lines file folds lines) (λ es. small_ok _)) (λ es. small_ok _))
 
+-- list files
+small_items : (file : List ℕ) (line : ℕ) (answer : Option (List Item)) → Small (list_file.or_refused file line answer)
+small_items file line (Some items) = small_ok items
+small_items file line None = λ refusal is.
+    let e : refused file line C11 list_file.item_reason ≡ refusal = cc in sym (ap is_of_size e)
+
+small_list_lines : (file : List ℕ) (lines : List Logical) → Small (list_file.lines_items file lines)
+small_list_lines file [] = small_ok []
+small_list_lines file (logical ∷ lines) =
+    small_step (list_file.or_refused file logical.line (list_file.line_items logical.text)) _ (small_items file logical.line (list_file.line_items logical.text))
+    (λ items. small_step (list_file.lines_items file lines) _ (small_list_lines file lines) (λ more. small_ok (items ++ more)))
+
+pub small_list : (file bytes : List ℕ) → Small (list_file.items_of file bytes)
+unfolding list_file.items_of
+small_list file bytes =
+    small_step (text.lines_in file (grouped (physical_lines bytes))) _
+    (small_leading file (grouped (physical_lines bytes)).leading (grouped (physical_lines bytes)).logical)
+    (λ lines. small_list_lines file lines)
+
 -- tables of nets
 net_small : (reason : _) → bytes_eq (cidr.reason_text reason) size ≡ false
 unfolding cidr.reason_text
@@ -126,7 +147,7 @@ small_cdb name folds bytes = small_damage name (record { folds = folds; file = b
 
 -- texts that name no table, and inline tables
 pub small_spec : (file : List ℕ) (line : ℕ) (bytes : List ℕ) → Small (spec_of file line bytes)
-small_spec file line bytes = by (nodes_of most_levels bytes)
+small_spec file line bytes = by (named bytes)
   where
     by : (o : Option (List SpecNode)) → Small (naming.or_refused file line bytes o)
     by (Some nodes) = small_ok nodes

@@ -11,6 +11,7 @@ use Rattle.pf_asks.specs.declared.lookup.Results.TheVariants.{Listed, Anything}
 use Rattle.pf_cidr.specs.Addresses.{address_of}
 use Rattle.pf_cidr.specs.Tables.{Table, first_rule}
 use Rattle.pf_cidr.specs.declared.address.Addr.{Addr}
+use Rattle.pf_listfile.specs.ListFile.{list_meaning}
 use Rattle.pf_pcre.specs.Tables.{pcre_meaning}
 use Rattle.pf_table.specs.Tables.{fail_meaning, keyed_meaning, static_meaning}
 use Rattle.pf_maps.specs.Cdb.{cdb_meaning, found_as}
@@ -95,6 +96,7 @@ onto (node.Pcre table) behind = pcre_meaning table ∷ behind
 onto (node.Inline table) behind = keyed_meaning table ∷ behind
 onto (node.Fixed value) behind = static_meaning value ∷ behind
 onto node.Fail behind = fail_meaning ∷ behind
+onto (node.ListFile items) behind = list_meaning items ∷ behind
 onto (node.Union count) behind = union_meaning (firsts count behind) ∷ drop count behind
 onto (node.Pipe count) behind = pipe_meaning (firsts count behind) ∷ drop count behind
 

@@ -12,6 +12,7 @@ use Rattle.pf_base.specs.declared.refused.Cause.TheVariants.{C10, C15}
 use Rattle.pf_base.specs.declared.refused.Refused.{Refused}
 use Rattle.pf_base.specs.declared.table_texts.TableText.{TableText}
 use Rattle.pf_cidr.specs.Tables.{table_of}
+use Rattle.pf_listfile.specs.ListFile.{items_of}
 use Rattle.pf_pcre.specs.Tables as pcre
 use Rattle.pf_table.specs.Inline.{inline_of}
 use Rattle.pf_table.specs.Text.{text_read}
@@ -98,6 +99,13 @@ pcre_opened event files place name = do
   table ← refusing (pcre.table_of (large_line event) name text)
   Ok (node.Pcre table)
 
+-- a list file: its items
+abbrev pub list_opened : Bool → List Pair → Place → List ℕ → Result Node Unopened
+list_opened failed files place name = do
+  text ← table_text failed files place name
+  items ← refusing (items_of name text)
+  Ok (node.ListFile items)
+
 -- inline: the table of the text between the braces
 abbrev pub inline_opened : Place → Bool → List ℕ → Result Node Refused
 inline_opened place folds text = do
@@ -112,6 +120,7 @@ node_opened event files place folds (spec_node.Pcre name) = pcre_opened event fi
 node_opened event files place folds (spec_node.Inline text) = refusing (inline_opened place folds text)
 node_opened event files place folds (spec_node.Fixed value) = Ok (node.Fixed value)
 node_opened event files place folds spec_node.Fail = Ok node.Fail
+node_opened event files place folds (spec_node.ListFile name) = list_opened (has_failed event) files place name
 node_opened event files place folds (spec_node.Union count) = Ok (node.Union count)
 node_opened event files place folds (spec_node.Pipe count) = Ok (node.Pipe count)
 

@@ -1,5 +1,6 @@
--- What the text of a table names (DATABASE_README). How unions and pipes are written and how deep they may be nested, and that what
--- is in the braces of `static:` is trimmed, is postgate's own.
+-- What the text of a table or a list file names (DATABASE_README; postconf(5), mydestination and mynetworks). How unions and pipes are
+-- written and how deep they may be nested, that no list file is in one, and that what is in the braces of `static:` is trimmed, is
+-- postgate's own.
 use Rattle.std.specs.Prelude.{ℕ, zero, suc, ◌+◌, ◌++◌, ◌==◌, Bool, false, List, [], ◌∷◌, Option, None, Some, Result, Ok, Err, codes, length, take, drop, if◌then◌else◌}
 use Rattle.std.specs.List.{position}
 use Rattle.std.specs.Option.{option_map, is_some}
@@ -126,15 +127,30 @@ unfoldable pub groups_at : ℕ → Group → List ℕ → Option (List SpecNode)
 groups_at zero group name = None
 groups_at (suc levels) group name = group_of (nodes_of levels) group name
 
--- how deep they may be nested
+-- a text that begins with a slash is the name of a list file
+abbrev pub is_list_file : List ℕ → Bool
+is_list_file [] = false
+is_list_file (b ∷ text) = b == ascii.slash
+
+abbrev pub list_node : List ℕ → Option SpecNode
+list_node name = option_map node.ListFile (file_name name)
+
+abbrev pub list_nodes : List ℕ → Option (List SpecNode)
+list_nodes name = option_map (λ one. one ∷ []) (list_node name)
+
+-- how deep unions and pipes may be nested
 abbrev pub most_levels : ℕ
 most_levels = 20
+
+-- a list file, or tables
+abbrev pub named : List ℕ → Option (List SpecNode)
+named text = if is_list_file text then list_nodes text else nodes_of most_levels text
 
 -- nodes, or the refusal of the text that has none
 abbrev pub or_refused : List ℕ → ℕ → List ℕ → Option (List SpecNode) → Result (List SpecNode) Refused
 or_refused file line text None = Err (refused file line C9 text)
 or_refused file line text (Some nodes) = Ok nodes
 
--- what the text of a table names
+-- what a text names
 abbrev pub spec_of : List ℕ → ℕ → List ℕ → Result (List SpecNode) Refused
-spec_of file line text = or_refused file line text (nodes_of most_levels text)
+spec_of file line text = or_refused file line text (named text)

@@ -1,4 +1,4 @@
-//! Tables by the texts that name them (DATABASE_README): what a text names, and tables that were opened.
+//! Tables and list files by the texts that name them (DATABASE_README): what a text names, and tables that were opened.
 #![tactic(auto)]
 
 mod cdb_table;
@@ -11,5 +11,5 @@ mod tables;
 mod walk;
 
 pub use opening::{OpenFault, file_text};
-pub use specification::{SpecNode, spec};
+pub use specification::{SpecNode, is_list_file, spec};
 pub use tables::Tables;

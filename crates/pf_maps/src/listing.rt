@@ -17,6 +17,7 @@ fn node_pairs(alloc: Global, node: &Node) -> Result<List<Pair>, NoMemory>
         Node::Pcre(_) => Ok(List::new(alloc)),
         Node::Fixed(_) => Ok(List::new(alloc)),
         Node::Fail => Ok(List::new(alloc)),
+        Node::ListFile(_) => Ok(List::new(alloc)),
         Node::Union(_) => Ok(List::new(alloc)),
         Node::Pipe(_) => Ok(List::new(alloc)),
     }

@@ -10,6 +10,7 @@ use crate::net_table::NetTable;
 use crate::walk::find_table;
 use pf_asks::{Found, TableFault};
 use pf_base::NoMemory;
+use pf_listfile::ListFile;
 use pf_pcre::PcreTable;
 use pf_table::{Inline, StaticTable, TextTable};
 use std::alloc::Global;
@@ -25,6 +26,7 @@ pub(crate) enum Node {
     Inline(Inline),
     Fixed(StaticTable),
     Fail,
+    ListFile(ListFile),
     /// The number of its members, which are after it, each with its own.
     Union(u64),
     Pipe(u64),

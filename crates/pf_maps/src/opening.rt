@@ -14,6 +14,7 @@ use pf_base::{
     Bytes, Cause, ConfFault, Files, NoMemory, ReadFault, Refused, Specs, TableId, read_all, refuse,
 };
 use pf_cidr::CidrTable;
+use pf_listfile::ListFile;
 use pf_pcre::{Patterns, PcreTable};
 use pf_table::{Inline, Repeats, StaticTable, TextRead, TextTable};
 use std::alloc::Global;
@@ -201,6 +202,22 @@ fn open_pcre<F: Files>(
     }
 }
 
+fn open_list<F: Files>(
+    alloc: Global,
+    place: &Place,
+    name: &[u8],
+    files: &mut F,
+) -> Result<Node, OpenFault>
+    ensures opens { Opens (F.known files.old) (F.known files.new) (λ failed all. opening.list_opened failed all place.now name.now) result }
+    ensures small { IfErr result (λ fault. names_size fault ≡ false) }
+{
+    let text = table_text(alloc, place, name, files)?;
+    match ListFile::read(alloc, name, text.as_slice()) {
+        Ok(list) => Ok(Node::ListFile(list)),
+        Err(fault) => Err(OpenFault::of(fault)),
+    }
+}
+
 fn open_inline(alloc: Global, place: &Place, folded: bool, text: &[u8]) -> Result<Node, ConfFault>
     ensures { Unless result ConfFault.NoMemory (λ r. r ≡ as_fault (opening.inline_opened place.now folded text.now)) }
 {
@@ -247,6 +264,7 @@ fn open_node<F: Files>(
         SpecNode::Inline(text) => held(open_inline(alloc, place, folded, text.as_slice())),
         SpecNode::Fixed(value) => held(open_fixed(alloc, value)),
         SpecNode::Fail => Ok(Node::Fail),
+        SpecNode::ListFile(name) => open_list(alloc, place, name.as_slice(), files),
         SpecNode::Union(count) => Ok(Node::Union(*count)),
         SpecNode::Pipe(count) => Ok(Node::Pipe(*count)),
     }

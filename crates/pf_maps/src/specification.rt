@@ -1,4 +1,4 @@
-//! What the text of a table names (DATABASE_README).
+//! What the text of a table or a list file names (DATABASE_README; postconf(5), mydestination and mynetworks).
 ghost use Rattle.std.specs.Prelude.{◌≡◌, ◌≢◌, ◌==◌, IfOk};
 ghost use Rattle.std.specs.List.{position};
 ghost use Rattle.std.specs.Option.{option_copied};
@@ -15,7 +15,7 @@ use std::alloc::Global;
 // How deep unions and pipes may be in one another.
 const LEVELS: u64 = 20;
 
-/// A table that a text names, or one that is made of others.
+/// A table or a list file that a text names, or a table that is made of others.
 #[derive(Debug, PartialEq, Eq, Drop)]
 pub enum SpecNode {
     /// `texthash:`, with the name of the file.
@@ -32,6 +32,8 @@ pub enum SpecNode {
     Fixed(Bytes),
     /// `fail:`.
     Fail,
+    /// A list file, with its name.
+    ListFile(Bytes),
     /// `unionmap:`, with the number of its members, which are after it, each with its own.
     Union(u64),
     /// `pipemap:`, likewise.
@@ -321,15 +323,57 @@ fn nodes_of(alloc: Global, text: &[u8]) -> Result<Option<List<SpecNode>>, NoMemo
     }
 }
 
-/// The tables that a text names, the outermost first: `texthash:FILE`, `cdb:FILE`, whose file is FILE.cdb, `cidr:FILE`, `pcre:FILE`, `inline:{KEY=VALUE ..}`, `static:VALUE` or
-/// `static:{VALUE}`, `fail:NAME`, `unionmap:{TEXT, ..}` and `pipemap:{TEXT, ..}`, whose members are after them in order, each
-/// with its own (DATABASE_README). A text of another type, without a colon, with braces or items that are not of its form, a
-/// file name that is no UTF-8, a union or pipe without members or nested more than 20 deep, is refused as C9, with this file and
-/// line and the whole text as its name.
+/// Whether a text names a list file: it begins with a slash (postconf(5), mydestination and mynetworks).
+pub fn is_list_file(text: &[u8]) -> bool
+    ensures { result ≡ naming.is_list_file text.now }
+{
+    match text {
+        [b'/', ..] => true,
+        _ => false,
+    }
+}
+
+fn list_node(alloc: Global, name: &[u8]) -> Result<Option<SpecNode>, NoMemory>
+    ensures { IfOk result (λ node. node ≡ naming.list_node name.now) }
+{
+    match file_name(alloc, name)? {
+        None => Ok(None),
+        Some(file) => Ok(Some(SpecNode::ListFile(file))),
+    }
+}
+
+// The one node of a list file; None where its name is none.
+fn list_nodes(alloc: Global, name: &[u8]) -> Result<Option<List<SpecNode>>, NoMemory>
+    ensures { IfOk result (λ nodes. nodes ≡ naming.list_nodes name.now) }
+{
+    let Some(node) = list_node(alloc, name)? else {
+        return Ok(None);
+    };
+    let mut nodes = List::new(alloc);
+    nodes.push(node)?;
+    Ok(Some(nodes))
+}
+
+// The nodes of a list file or of tables; None where the text names neither.
+fn named(alloc: Global, text: &[u8]) -> Result<Option<List<SpecNode>>, NoMemory>
+    ensures { IfOk result (λ nodes. nodes ≡ naming.named text.now) }
+{
+    if is_list_file(text) {
+        list_nodes(alloc, text)
+    } else {
+        nodes_of(alloc, text)
+    }
+}
+
+/// The list file that a text names, or the tables, the outermost first: `/FILE` is a list file, and tables are `texthash:FILE`, `cdb:FILE`, whose
+/// file is FILE.cdb, `cidr:FILE`, `pcre:FILE`, `inline:{KEY=VALUE ..}`, `static:VALUE` or `static:{VALUE}`, `fail:NAME`, `unionmap:{TEXT, ..}` and
+/// `pipemap:{TEXT, ..}`, whose members are after them in order, each with its own (DATABASE_README). A text of another type, without a colon,
+/// with braces or items that are not of its form, a file name that is no UTF-8, a union or pipe without members, with a list file among
+/// them, or nested more than 20 deep, is refused as C9, with this file and line and the whole text as its name.
 pub fn spec(alloc: Global, file: &[u8], line: u64, text: &[u8]) -> Result<List<SpecNode>, ConfFault>
     ensures { Unless result ConfFault.NoMemory (λ r. r ≡ as_fault (naming.spec_of file.now line text.now)) }
 {
-    match nodes_of(alloc, text) {
+    match named(alloc, text) {
         Err(NoMemory) => Err(ConfFault::NoMemory),
         Ok(None) => Err(refuse(alloc, file, line, Cause::C9, text)),
         Ok(Some(nodes)) => Ok(nodes),

@@ -30,8 +30,8 @@ impl Model for Tables {
 }
 
 impl Tables {
-    /// The tables of these texts, in their order. A text that names no table is refused as C9, with the file and the line of the
-    /// setting that named it and the text as its name; a file that is not there as C10, and one of more than 64 MiB as C15,
+    /// The tables and list files of these texts, in their order. A text that names none is refused as C9, with the file and the line
+    /// of the setting that named it and the text as its name; a file that is not there as C10, and one of more than 64 MiB as C15,
     /// likewise with the file's name; a file's text as C1 or C11, with its own name and line. The first refusal counts. Where
     /// `folded`, letters count as the same in either case. `Failed` comes only where the count of faults of `files` rose by one,
     /// and has the name of the file that was to be read; what is refused before it comes first. Where a pattern is too large,

@@ -161,6 +161,7 @@ pub(crate) fn find_table(alloc: Global, nodes: &mut [Node], key: &[u8]) -> Resul
         Node::Inline(table) => table.find(alloc, key),
         Node::Fixed(table) => table.find(alloc, key),
         Node::Fail => Err(TableFault::Fails),
+        Node::ListFile(list) => list.find(alloc, key),
         Node::Union(count) => {
             let count = *count;
             find_union(alloc, &mut nodes[1..], count, key)
@@ -205,6 +206,7 @@ pub(crate) fn has_partial_keys(nodes: &[Node]) -> bool
         Node::Inline(table) => table.partial_keys(),
         Node::Fixed(table) => table.partial_keys(),
         Node::Fail => true,
+        Node::ListFile(list) => list.partial_keys(),
         Node::Union(count) => all_partial(behind, *count),
         Node::Pipe(count) => all_partial(behind, *count),
     }
@@ -251,6 +253,7 @@ pub(crate) fn results_of(alloc: Global, nodes: &[Node]) -> Result<Results, NoMem
         Node::Inline(table) => table.results(alloc),
         Node::Fixed(table) => table.results(alloc),
         Node::Fail => Ok(Results::Listed(List::new(alloc))),
+        Node::ListFile(list) => list.results(alloc),
         Node::Union(count) => union_results(alloc, behind, *count),
         Node::Pipe(count) => pipe_results(alloc, behind, *count),
     }

@@ -22,7 +22,7 @@ use Rattle.pf_maincf.specs.File.{Kept}
 use Rattle.pf_maps.proofs.TurnLaws.{small_counts}
 use Rattle.pf_maps.specs.Clauses.Opened.{Opens, OpensWith, is_of_size, names_event, names_size}
 use Rattle.pf_maps.specs.Clauses.Seen.{OpenTables, listed, meaning_in, opened}
-use Rattle.pf_maps.specs.Opening.{Unopened, tables_opened}
+use Rattle.pf_maps.specs.Opening.{Unopened}
 use Rattle.pf_maps.specs.Opening.{Unopened as unopened}
 use Rattle.pf_maps.specs.declared.node.Node.{Node}
 use Rattle.pf_maps.specs.declared.opening.OpenFault.{OpenFault}
@@ -35,7 +35,7 @@ use Rattle.pf_tools.specs.Map.Course.{Course as course}
 use Rattle.pf_tools.specs.Map.Keys.{Answers, answered, keys_of, whole_keys}
 use Rattle.pf_tools.specs.Map.Lines.{pair_lines, value_at, value_line}
 use Rattle.pf_tools.specs.Map.Run.{PostmapRun, statuses, statuses_by}
-use Rattle.pf_tools.specs.Map.Said.{Happening, Task, is_of, is_unread, read_at_first, specs_of, table_in, task_by, task_in}
+use Rattle.pf_tools.specs.Map.Said.{Happening, Task, is_of, is_unread, read_at_first, table_in, tables_in, task_by, task_in}
 use Rattle.pf_tools.specs.Map.Said.{Task as task}
 use Rattle.pf_tools.specs.declared.map.build.Built.{Built}
 use Rattle.pf_tools.specs.declared.map.keys.Ended.{Ended}
@@ -250,7 +250,7 @@ took_postmap {words} {before} {now} {old} {new} {status} took =
 -- what there is to do with a table that was opened
 module _ (words : MapWords) (before now : Objects) (old new : ℕ) where
   abbrev Opening : Result OpenTables OpenFault → Type 0
-  Opening result = OpensWith before.files now.files old new (λ event all. opened (tables_opened event all words.folded (specs_of words.table))) result
+  Opening result = OpensWith before.files now.files old new (λ event all. opened (tables_in event words all)) result
 
   with_table : (f : Option (List Node) → Task) (tables : OpenTables) (answer : Result (List (List Node)) Unopened) → opened answer ≡ Ok tables
       → ((answer >>= (λ tables. Ok (slice_get tables 0))) >>= (λ table. Ok (f table))) ≡ Ok (f (slice_get tables.tables 0))
@@ -270,19 +270,19 @@ module _ (words : MapWords) (before now : Objects) (old new : ℕ) where
     task_is : (tables : OpenTables) → Opening (Ok tables) → is_of j (f (slice_get tables.tables 0)) ≡ true → IsTask words before (f (slice_get tables.tables 0))
     task_is tables opens own = record {
       known = λ files known.
-          ap (λ j. task_by j None words files) is ∙ asks None files ∙ with_table f tables (tables_opened None files words.folded (specs_of words.table))
-          (subst (λ e. opened (tables_opened e files words.folded (specs_of words.table)) ≡ Ok tables) (none_of opens.event opens.names) (opens.known files known));
+          ap (λ j. task_by j None words files) is ∙ asks None files ∙ with_table f tables (tables_in None words files)
+          (subst (λ e. opened (tables_in e words files) ≡ Ok tables) (none_of opens.event opens.names) (opens.known files known));
       asked = ap (λ j. is_of j (f (slice_get tables.tables 0))) is ∙ own;
     }
 
     stops : (fault : OpenFault) (why : Unopened) (opens : Opening (Err fault))
-        → ((files : List Pair) → before.files.content ≡ Some files → opened (tables_opened opens.event files words.folded (specs_of words.table)) ≡ Err why)
+        → ((files : List Pair) → before.files.content ≡ Some files → opened (tables_in opens.event words files) ≡ Err why)
         → names_event {A = OpenTables} (Err fault) ≡ names_happening why → IsStopped words before why
     stops fault why opens said named = record {
       happening = opens.event;
       known = λ files known.
           ap (λ j. task_by j opens.event words files) is ∙ asks opens.event files
-          ∙ without_table f why (tables_opened opens.event files words.folded (specs_of words.table)) (said files known);
+          ∙ without_table f why (tables_in opens.event words files) (said files known);
       named = opens.names ∙ named;
     }
 

@@ -1,5 +1,5 @@
 -- The value that an opened table has for a key.
-use Rattle.std.proofs.Common.{◌≡◌, ℕ, true, false, List, Option, None, Some, Ok, Err, refl, sym, ap, ◌∙◌}
+use Rattle.std.proofs.Common.{◌≡◌, ◌≢◌, ◌||◌, ℕ, true, false, List, Option, None, Some, Result, Ok, Err, inl, refl, sym, ap, ◌∙◌, if◌then◌else◌}
 use Rattle.std.proofs.lemmas.Bool.{false≢true}
 use Rattle.std.specs.Option.{ok_or, unwrap_or}
 use Rattle.pf_asks.specs.Clauses.Held.{Answered, is_meant_or_failure}
@@ -7,10 +7,21 @@ use Rattle.pf_asks.specs.Looking.{Looked, Tables, Values, look_failed, looked_up
 use Rattle.pf_asks.specs.declared.lookup.Found.{Found}
 use Rattle.pf_asks.specs.declared.lookup.Found.TheVariants.{Value, Absent}
 use Rattle.pf_asks.specs.declared.lookup.TableFault.TheVariants.{Fails}
-use Rattle.pf_maps.specs.Clauses.Seen.{OpenTables, seen, values_of}
+use Rattle.pf_base.specs.Outside.Known.{Tree}
+use Rattle.pf_base.specs.declared.pair.Pair.{Pair}
+use Rattle.pf_base.specs.declared.refused.Refused.{Refused}
+use Rattle.pf_maps.proofs.TurnLaws.{small_counts}
+use Rattle.pf_maps.specs.Clauses.Opened.{OpensWith, is_of_size}
+use Rattle.pf_maps.specs.Clauses.Seen.{OpenTables, opened, seen, values_of}
+use Rattle.pf_maps.specs.Opening.{tables_opened}
+use Rattle.pf_maps.specs.Opening.{Unopened as unopened}
+use Rattle.pf_maps.specs.declared.opening.OpenFault.{OpenFault}
+use Rattle.pf_maps.specs.declared.opening.OpenFault.TheVariants as open_fault
 use Rattle.pf_table.specs.Tables.{fail_meaning}
 use Rattle.pf_tools.specs.Clauses.Opened.{meant, value_in}
 use Rattle.pf_tools.specs.Map.Lines.{value_found}
+use Rattle.pf_tools.specs.Map.Said.{Happening, is_no_table, no_table, specs_of, tables_in}
+use Rattle.pf_words.specs.declared.postmap.MapWords.{MapWords}
 
 -- an answer that is no failure from outside is the one that is meant
 as_meant : (values : Values) (key : List ℕ) (result : Looked) → Answered look_failed (Some values) (value_of 0 key) result → look_failed result ≡ false
@@ -51,3 +62,38 @@ module _ (old : OpenTables) (key : List ℕ) where
 -- a lookup keeps what a table means
 pub still_meant : (old new : OpenTables) (result : Looked) → seen new ≡ looked_up result (seen old) → meant new ≡ meant old
 still_meant old new result stays = ap (λ (t : Tables). unwrap_or t.held.content (λ id. fail_meaning) 0) stays
+
+-- a text that names no table is refused
+other_fault : (refusal : Refused) → open_fault.Refused refusal ≢ open_fault.NoMemory
+other_fault refusal e = cc
+
+failed_other : (file : List ℕ) → open_fault.Failed file ≢ open_fault.NoMemory
+failed_other file e = cc
+
+failed_no_refusal : (file : List ℕ) (refusal : Refused) → open_fault.Failed file ≢ open_fault.Refused refusal
+failed_no_refusal file refusal e = cc
+
+pub opens_no_table : (words : MapWords) (tree : Tree) (count : ℕ) (fault : OpenFault) → is_no_table words.table ≡ true
+    → (fault ≢ open_fault.NoMemory → fault ≡ open_fault.Refused (no_table words.table))
+    → OpensWith tree tree count count (λ event all. opened (tables_in event words all)) (Err fault)
+opens_no_table words tree count (open_fault.Refused refusal) none is =
+    let made : open_fault.Refused refusal ≡ open_fault.Refused (no_table words.table) = is (other_fault refusal) in
+    let e : no_table words.table ≡ refusal = cc in
+    let small : is_of_size refusal ≡ false = sym (ap is_of_size e) in
+    record {
+      event = None;
+      known = λ all known.
+          ap (λ t. opened (if t then Err (unopened.refuses (no_table words.table)) else tables_opened None all words.folded (specs_of words.table))) none
+          ∙ ap (λ r. Err (unopened.refuses r)) e;
+      leaves = (refl, refl);
+      counts = small_counts count (is_of_size refusal) small;
+      names = sym (ap (λ t. t || false) small);
+    }
+opens_no_table words tree count (open_fault.Failed file) none is = absurd (failed_no_refusal file (no_table words.table) (is (failed_other file)))
+opens_no_table words tree count open_fault.NoMemory none is = record { event = None; known = λ all known. tt; leaves = (refl, refl); counts = inl refl; names = refl }
+
+-- any other text names what it says
+pub tables_are : (event : Happening) (words : MapWords) (all : List Pair) → is_no_table words.table ≡ false
+    → tables_opened event all words.folded (specs_of words.table) ≡ tables_in event words all
+tables_are event words all is =
+    sym (ap (λ t. if t then Err (unopened.refuses (no_table words.table)) else tables_opened event all words.folded (specs_of words.table)) is)

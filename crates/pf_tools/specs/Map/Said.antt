@@ -1,14 +1,19 @@
 -- What postmap has to do by its words and the files (postmap(1)). The refusals are postgate's own.
-use Rattle.std.specs.Prelude.{ℕ, ◌++◌, ◌==◌, Bool, true, false, List, [], ◌∷◌, Option, Some, None, Result, Ok, codes, slice_get, if◌then◌else◌}
+use Rattle.std.specs.Prelude.{ℕ, ◌++◌, ◌==◌, ◌&&◌, Bool, true, false, List, [], ◌∷◌, Option, Some, None, Result, Ok, Err, codes, slice_get, if◌then◌else◌}
 use Rattle.std.specs.List.{list_any}
+use Rattle.pf_base.specs.Refusal.{refused}
 use Rattle.pf_base.specs.Results.{◌>>=◌}
 use Rattle.pf_base.specs.TableTexts.{TableTexts}
 use Rattle.pf_base.specs.Text.Ascii as ascii
 use Rattle.pf_base.specs.declared.pair.Pair.{Pair}
+use Rattle.pf_base.specs.declared.refused.Cause.TheVariants.{C9}
+use Rattle.pf_base.specs.declared.refused.Refused.{Refused}
 use Rattle.pf_asks.specs.Looking.{Meaning}
 use Rattle.pf_maps.specs.Clauses.Seen.{listed, meaning_in}
 use Rattle.pf_maps.specs.Opening.{Event, Unopened, has_failed, tables_opened}
 use Rattle.pf_maps.specs.Opening.{Event as event}
+use Rattle.pf_maps.specs.Opening.{Unopened as unopened}
+use Rattle.pf_maps.specs.Specification.{is_list_file}
 use Rattle.pf_maps.specs.declared.node.Node.{Node}
 use Rattle.pf_tools.specs.Map.Built.{built_in}
 use Rattle.pf_tools.specs.Map.Lines.{value_at}
@@ -24,6 +29,13 @@ has_type table = list_any (λ b. b == ascii.colon) table
 -- a text without a type names a cdb
 abbrev pub text_of : List ℕ → List ℕ
 text_of table = if has_type table then table else codes "cdb:" ++ table
+
+-- no type begins with a slash: only a list in main.cf names a list file
+abbrev pub is_no_table : List ℕ → Bool
+is_no_table table = has_type table && is_list_file table
+
+abbrev pub no_table : List ℕ → Refused
+no_table table = refused (codes "words") 0 C9 table
 
 -- the text of the table as one that words name
 abbrev pub specs_of : List ℕ → TableTexts
@@ -41,10 +53,15 @@ abbrev pub is_unread : Happening → Bool
 is_unread None = false
 is_unread (Some (text, (table, event))) = has_failed (Some event)
 
+-- the tables that are opened, or why they are not
+abbrev pub tables_in : Happening → MapWords → List Pair → Result (List (List Node)) Unopened
+tables_in happening words files =
+    if is_no_table words.table then Err (unopened.refuses (no_table words.table)) else tables_opened happening files words.folded (specs_of words.table)
+
 -- the table that is opened, or why it is not
 abbrev pub table_in : Happening → MapWords → List Pair → Result (Option (List Node)) Unopened
 table_in happening words files = do
-  tables ← tables_opened happening files words.folded (specs_of words.table)
+  tables ← tables_in happening words files
   Ok (slice_get tables 0)
 
 -- what there is to do: to put a cdb in its place and warn of repeated keys, to say the value of a key, to answer the keys of the input by a table,

@@ -1,15 +1,14 @@
 //! The table that words name.
-ghost use Rattle.std.specs.Prelude.{◌≡◌, IfOk, slice_get};
+ghost use Rattle.std.specs.Prelude.{◌≡◌, ◌≢◌, IfOk, slice_get};
 ghost use Rattle.pf_maps.specs.Clauses.Opened.{OpensWith};
 ghost use Rattle.pf_maps.specs.Clauses.Seen.{listed, opened};
-ghost use Rattle.pf_maps.specs.Opening.{tables_opened};
 ghost use Rattle.pf_tools.specs.Clauses.Opened.{meant};
 ghost use Rattle.pf_tools.specs.Map.Lines.{value_at};
 ghost use Rattle.pf_tools.specs.Map.Said as spec;
 
 use pf_asks::{Found, Lookup, TableFault};
-use pf_base::{Bytes, Files, List, NoMemory, Pair, Specs, TableId};
-use pf_maps::{OpenFault, Tables};
+use pf_base::{Bytes, Cause, ConfFault, Files, List, NoMemory, Pair, Specs, TableId, refuse};
+use pf_maps::{OpenFault, Tables, is_list_file};
 use pf_pcre::Patterns;
 use pf_words::MapWords;
 use std::alloc::Global;
@@ -22,6 +21,23 @@ fn has_type(table: &[u8]) -> bool
     ensures { result ≡ spec.has_type table.now }
 {
     table.iter().any(|b| *b == b':')
+}
+
+// Whether a text has a type that begins with a slash.
+fn is_no_table(table: &[u8]) -> bool
+    ensures { result ≡ spec.is_no_table table.now }
+{
+    has_type(table) && is_list_file(table)
+}
+
+// Why a text is refused that names no table.
+fn no_table(alloc: Global, table: &[u8]) -> OpenFault
+    ensures { result ≢ OpenFault.NoMemory → result ≡ OpenFault.Refused (spec.no_table table.now) }
+{
+    match refuse(alloc, b"words", 0, Cause::C9, table) {
+        ConfFault::Refused(refusal) => OpenFault::Refused(refusal),
+        ConfFault::NoMemory => OpenFault::NoMemory,
+    }
 }
 
 // The text of a table with its type.
@@ -47,16 +63,20 @@ fn specs_of(alloc: Global, table: &[u8]) -> Result<Specs, NoMemory>
     Ok(specs)
 }
 
-/// Opens the table that the words name.
+/// Opens the table that the words name. A text whose type begins with a slash names none, and is refused as C9.
 pub(crate) fn open_table<F: Files>(
     alloc: Global,
     words: &MapWords,
     files: &mut F,
     patterns: &mut Patterns,
 ) -> Result<Tables, OpenFault>
-    ensures { OpensWith (F.known files.old) (F.known files.new) patterns.old patterns.new (λ event all. opened (tables_opened event all words.now.folded (spec.specs_of words.now.table))) result }
+    ensures { OpensWith (F.known files.old) (F.known files.new) patterns.old patterns.new (λ event all. opened (spec.tables_in event words.now all)) result }
 {
-    let Ok(specs) = specs_of(alloc, words.table.as_slice()) else {
+    let table = words.table.as_slice();
+    if is_no_table(table) {
+        return Err(no_table(alloc, table));
+    }
+    let Ok(specs) = specs_of(alloc, table) else {
         return Err(OpenFault::NoMemory);
     };
     Tables::open(alloc, &specs, words.folded, files, patterns)

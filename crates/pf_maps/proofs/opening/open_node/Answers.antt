@@ -1,5 +1,5 @@
 use Rattle.pf_maps.proofs.TurnLaws.{opens_file}
-use Rattle.pf_maps.specs.Opening.{cdb_opened, cidr_opened, text_opened}
+use Rattle.pf_maps.specs.Opening.{cdb_opened, cidr_opened, list_opened, text_opened}
 use Rattle.pf_maps.proofs.opening.open_node.Goals as goal
 
 pub returns-in-Text : goal.returns-in-Text
@@ -19,3 +19,9 @@ returns-in-Cidr g c =
     rw c.in-Cidr.is (opens_file (g.F.Files.known c.args.files.now) (g.F.Files.known c.open_cidr.new.files) c.args.patterns.now
     (λ failed all. cidr_opened failed all c.args.place.now c.in-Cidr.name) c.open_cidr.result
     (rw c.as_slice-in-Cidr.ensures at c.open_cidr.ensures.opens) c.open_cidr.ensures.small)
+
+pub returns-in-ListFile : goal.returns-in-ListFile
+returns-in-ListFile g c =
+    rw c.in-ListFile.is (opens_file (g.F.Files.known c.args.files.now) (g.F.Files.known c.open_list.new.files) c.args.patterns.now
+    (λ failed all. list_opened failed all c.args.place.now c.in-ListFile.name) c.open_list.result
+    (rw c.as_slice-in-ListFile.ensures at c.open_list.ensures.opens) c.open_list.ensures.small)

@@ -1,5 +1,11 @@
-use Rattle.std.proofs.Common.{None, inl, refl}
+use Rattle.std.proofs.Common.{None, inl, refl, ap, ◌∙◌, sym}
+use Rattle.pf_maps.specs.Clauses.Seen.{opened}
+use Rattle.pf_tools.proofs.TableLaws.{opens_no_table, tables_are}
 use Rattle.pf_tools.proofs.map.table.open_table.Goals as goal
+
+pub returns-then-is_no_table : goal.returns-then-is_no_table
+returns-then-is_no_table g c =
+    opens_no_table c.args.words.now (g.F.Files.known c.args.files.now) c.args.patterns.now c.no_table.result _ c.no_table.ensures
 
 pub returns : goal.returns
 returns g c =
