@@ -263,9 +263,10 @@ texts_for_a_stranger : spoken (V4 3221225993) served ≡ record {
 unfolding greeting_of steps step command verb_of after_keyword relay_end end_of text_of helo_text mail_text rcpt_text relay_denied_text quit_text log_line printed_line denied_text recipient_text denial_text printed_address printed_local printed_domain is_atom_byte digits lines
 texts_for_a_stranger = rw (sender_served, recipient_served)
 
-over_behind_quit : map (speech_of (setup_of site (V4 167838211))).over (served ∷ codes "HELO c.test\r\nQUIT" ∷ [] ∷ []) ≡ true ∷ false ∷ false ∷ []
-unfolding steps step command verb_of after_keyword relay_end end_of lines
-over_behind_quit = rw (sender_served, recipient_served)
+over_behind_quit : map (speech_of (setup_of site (V4 167838211))).over (codes "HELO c.test\r\nQUIT\r\nQUIT\r\n" ∷ codes "HELO c.test\r\nQUIT" ∷ [] ∷ [])
+    ≡ true ∷ false ∷ false ∷ []
+unfolding steps step command verb_of lines
+over_behind_quit = refl
 
 -- runs
 usage_of_the_words : usage_line ≡ codes "usage: postgate smtpd|relaycheck|postconf|postmap|workload\n"
